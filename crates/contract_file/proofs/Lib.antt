@@ -1,0 +1,11 @@
+pub mod Everywhere
+pub mod Along
+pub mod Flooring
+pub mod Tables
+pub mod Passing
+pub mod Ahead
+pub mod Lowering
+pub mod Spreading
+pub mod Held
+pub mod OneAnswer
+pub mod Freshly

@@ -1,0 +1,13 @@
+pub mod Faults
+pub mod Asking
+pub mod Files
+pub mod Pointing
+pub mod Chains
+pub mod Floors
+pub mod Reach
+pub mod Pass
+pub mod Clauses
+pub mod Questions
+pub mod Sound
+pub mod Fresh
+pub mod Unique
