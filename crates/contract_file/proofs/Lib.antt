@@ -9,3 +9,4 @@ pub mod Spreading
 pub mod Held
 pub mod OneAnswer
 pub mod Freshly
+pub mod Facts

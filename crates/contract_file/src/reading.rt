@@ -1,6 +1,6 @@
 //! Reading a contract file: the questions 1 to 7, asked in order.
 ghost use mathlib.Core.Path.{_≡_};
-ghost use mathlib.Core.Bool.{true, cond};
+ghost use mathlib.Core.Bool.{cond};
 ghost use Prim.Native.Nat.{ℕ, _+_, _*_, _≤_};
 ghost use lib.ListN.{length, getD};
 ghost use Rattle.std.specs.Results.{isOk};
@@ -9,7 +9,7 @@ ghost use Rattle.contract_file.specs.declared.faults.Fault.the-variants.{Unlis
 ghost use Rattle.contract_file.specs.Asking.{Asked, Answers};
 ghost use Rattle.contract_file.specs.Files.{count-of, table-of, decoded};
 ghost use Rattle.contract_file.specs.Questions.{Right-length, Entries-listed, reading};
-ghost use Rattle.contract_file.specs.Sound.{Parsed, Sound};
+ghost use Rattle.contract_file.specs.Sound.{Parsed};
 ghost use Rattle.entries.specs.Parts.{at, Listed};
 use crate::calls::ask_calls;
 use crate::chains::ask_chains;
@@ -18,6 +18,7 @@ use crate::files::File;
 use crate::files::MOST_ENTRIES;
 use crate::files::PLACES;
 use crate::pointers::ask_pointers;
+use crate::read_file::ReadFile;
 use crate::windows::ask_windows;
 use entries::Entry;
 use entries::decode;
@@ -69,16 +70,15 @@ fn parse(bytes: &[u8]) -> Result<File, Fault>
 }
 
 /// Reads a contract file into the caller's place, whole if all questions pass, and otherwise not at all.
-pub fn read(place: &mut File, bytes: &[u8]) -> Result<(), Fault>
+pub fn read(place: &mut ReadFile, bytes: &[u8]) -> Result<(), Fault>
     ensures answer { λ r. ⌜ Answers (reading (now (bytes .entry))) 8 r ⌝ }
-    ensures after { λ r. ⌜ now (place .exit) ≡ cond (isOk r) (decoded (now (bytes .entry))) (now (place .entry)) ⌝ }
-    ensures sound { λ r. ⌜ (isOk r ≡ true → Sound (now (place .exit))) ⌝ }
+    ensures after { λ r. ⌜ now (place .exit) .file ≡ cond (isOk r) (decoded (now (bytes .entry))) (now (place .entry) .file) ⌝ }
 {
     let file = parse(bytes)?;
     ask_pointers(&file)?;
     ask_chains(&file)?;
     ask_calls(&file)?;
     ask_windows(&file)?;
-    *place = file;
+    *place = ReadFile { file };
     Ok(())
 }

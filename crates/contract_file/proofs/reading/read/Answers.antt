@@ -1,7 +1,6 @@
 use mathlib.Core.Path.{_≡_, refl, subst}
 use native.Mathlib.Omega.{arith}
 use Rattle.std.proofs.shelf.Results.{err-from-errBy}
-use Rattle.std.proofs.shelf.Tests.{false≢true}
 use Rattle.contract_file.specs.declared.faults.Fault.the-variants.{Pointer, Chain, Call, Window}
 use Rattle.contract_file.specs.declared.files.File.{File}
 use Rattle.contract_file.specs.Asking.{Passed}
@@ -19,7 +18,6 @@ returns-in-Break-file c =
     rw (p .1, p .2) (record {
       answer = refused-more (reading (c .args .bytes .now)) _ 4 8 (omega arith) (c .in-Break-file .ensures tt .answer);
       after = refl;
-      sound = λ e. absurd (false≢true e);
     })
 
 pub returns-in-Break-ask-pointers : need.returns-in-Break-ask-pointers
@@ -32,7 +30,6 @@ returns-in-Break-ask-pointers c =
     rw (p .1, p .2) (record {
       answer = refused qs _ Pointer 4 8 (omega arith) (λ _. refl) (λ _. refl) below₄ (rw same at (c .in-Break-ask-pointers .ensures tt));
       after = refl;
-      sound = λ e. absurd (false≢true e);
     })
 
 pub ask-chains-requires : need.ask-chains-requires
@@ -49,7 +46,6 @@ returns-in-Break-ask-chains c =
     rw (p .1, p .2) (record {
       answer = refused qs _ Chain 5 8 (omega arith) (λ _. refl) (λ _. refl) below₅ (rw same at (c .in-Break-ask-chains .ensures tt));
       after = refl;
-      sound = λ e. absurd (false≢true e);
     })
 
 pub ask-calls-requires : need.ask-calls-requires
@@ -67,7 +63,6 @@ returns-in-Break-ask-calls c =
     rw (p .1, p .2) (record {
       answer = refused qs _ Call 6 8 (omega arith) (λ _. refl) (λ _. refl) below₆ (rw same at (c .in-Break-ask-calls .ensures tt));
       after = refl;
-      sound = λ e. absurd (false≢true e);
     })
 
 pub ask-windows-requires : need.ask-windows-requires
@@ -86,8 +81,20 @@ returns-in-Break-ask-windows c =
     rw (p .1, p .2) (record {
       answer = refused qs _ Window 7 8 (omega arith) (λ _. refl) (λ _. refl) below₇ (rw same at (c .in-Break-ask-windows .ensures tt));
       after = refl;
-      sound = λ e. absurd (false≢true e);
     })
+
+-- the file that passes is sound
+pub ghost-place : need.ghost-place
+ghost-place c =
+    let b = c .args .bytes .now in
+    let qs = reading b in
+    let same = c .in-Continue-file .ensures tt .value in
+    let below₄ = c .in-Continue-file .ensures tt .answer in
+    let below₅ = one-more qs 4 below₄ (subst (λ (f : File). Passed (Pointers f)) same (c .in-Continue-ask-pointers .ensures tt)) in
+    let below₆ = one-more qs 5 below₅ (subst (λ (f : File). Passed (Chained f)) same (c .in-Continue-ask-chains .ensures tt)) in
+    let below₇ = one-more qs 6 below₆ (subst (λ (f : File). Passed (Calls f)) same (c .in-Continue-ask-calls .ensures tt)) in
+    let below₈ = one-more qs 7 below₇ (subst (λ (f : File). Passed (Windows f)) same (c .in-Continue-ask-windows .ensures tt)) in
+    (∣ rw same (decoded-sound b below₈ (rw same at (c .in-Continue-file .ensures tt .parsed))) ∣₁, tt)
 
 pub returns : need.returns
 returns c =
@@ -99,4 +106,4 @@ returns c =
     let below₆ = one-more qs 5 below₅ (subst (λ (f : File). Passed (Chained f)) same (c .in-Continue-ask-chains .ensures tt)) in
     let below₇ = one-more qs 6 below₆ (subst (λ (f : File). Passed (Calls f)) same (c .in-Continue-ask-calls .ensures tt)) in
     let below₈ = one-more qs 7 below₇ (subst (λ (f : File). Passed (Windows f)) same (c .in-Continue-ask-windows .ensures tt)) in
-    record { answer = below₈; after = same; sound = λ _. rw same (decoded-sound b below₈ (rw same at (c .in-Continue-file .ensures tt .parsed))) }
+    record { answer = below₈; after = same }

@@ -1,0 +1,3 @@
+pub mod Clauses
+pub mod Terms
+pub mod Opening
