@@ -1,0 +1,4 @@
+pub mod Shaping
+pub mod Unfolding
+pub mod Guarding
+pub mod Opened
