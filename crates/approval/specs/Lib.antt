@@ -1,0 +1,3 @@
+pub mod Approving
+pub mod Contents
+pub mod Unique
