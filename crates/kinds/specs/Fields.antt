@@ -27,7 +27,7 @@ signed z = record { bits = ofZ w32 z; value = z }
 abbrev pub sum-held : Row → ℕ → ℕ → ℕ
 sum-held row b u = min (getD row b 0 + u) 4294967295
 
--- whether a field passes a test, under the row from before the record
+-- whether a field passes a test, under the row from before the record: by its bits, and for a distance by the number they stand for
 abbrev pub passes : Test → Row → Field → Bool
 passes (Equals u) row f = eqb (f .bits) u
 passes (Between u v) row f = leb u (f .bits) && leb (f .bits) v

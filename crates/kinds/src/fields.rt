@@ -38,7 +38,7 @@ pub struct Conditions {
 
 /// A field of a record: its 32 bits, and the number that they stand for.
 #[derive(Clone, Copy)]
-pub(crate) struct Field {
+pub struct Field {
     /// The bits, as a slot holds them.
     pub bits: u32,
     /// The number.

@@ -32,7 +32,8 @@ impl Transfers {
     pub const NUMBER: u8 = 1;
 }
 
-/// Every test is admitted on every field but a sum or a distance, a range only if it is not empty.
+/// Every field takes every test but a sum and a distance; a range is admitted only if it is not
+/// empty.
 pub impl Kind for Transfers as TransfersKind {
     type Record = Transfer;
 
