@@ -26,10 +26,10 @@ loop-b-again c = (
   grind (arith, tells, value-next (c .loop-b .value) (c .args .text .now) (c .loop-b .b-index)),
 )
 
-pub returns-then-value : need.returns-then-value-lt4294967296
+pub returns-then-value : need.returns-then-value
 unfolding number-of
 returns-then-value c = grind (arith, tells, value-end (c .loop-b .value) (c .args .text .now) (c .loop-b .b-index))
 
-pub returns-else-value : need.returns-else-value-lt4294967296
+pub returns-else-value : need.returns-else-value
 unfolding number-of
 returns-else-value c = grind (arith, tells, value-end (c .loop-b .value) (c .args .text .now) (c .loop-b .b-index))
