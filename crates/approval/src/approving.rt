@@ -46,11 +46,7 @@ fn ask_conditions<K: Kind>(file: &File, kind: &K) -> Result<(), Fault>
 
 /// Is the file of this kind, with conditions that the kind admits, the contract small enough when it is opened,
 /// and the signing day early enough? If so, the answer is what each entry opens to.
-pub fn approve<K: Kind>(
-    read: &ReadFile,
-    kind: &K,
-    day: u32,
-) -> Result<[Shape; PLACES], Fault>
+pub fn approve<K: Kind>(read: &ReadFile, kind: &K, day: u32) -> Result<[Shape; PLACES], Fault>
     ensures answer { λ r. ⌜ Answers (approving (K·Kind .numbered (now (kind .entry))) (K·Kind .meaning .admits) day (now (read .entry) .file)) 12 r ⌝ }
     ensures value { λ r. ⌜ made r (λ s. s ≡ openings-of (now (read .entry) .file)) ⌝ }
     ensures known { λ r. ⌜ made r (λ s. Known (now (read .entry) .file) s) ⌝ }

@@ -15,12 +15,7 @@ use kinds::Kind;
 /// Asks all questions of a file's bytes, in order. If all pass, the checked file is written whole into the caller's
 /// place; otherwise the place stays as it was, and the answer is the first question that fails, with the lowest
 /// entry at fault.
-pub fn check<K: Kind>(
-    place: &mut Checked,
-    bytes: &[u8],
-    kind: &K,
-    day: u32,
-) -> Result<(), Fault>
+pub fn check<K: Kind>(place: &mut Checked, bytes: &[u8], kind: &K, day: u32) -> Result<(), Fault>
     ensures answer { λ r. ⌜ Answers (checking (K·Kind .numbered (now (kind .entry))) (K·Kind .meaning .admits) day (now (bytes .entry))) 12 r ⌝ }
     ensures after { λ r. ⌜ held (now (place .exit)) ≡ cond (isOk r) (contents (now (bytes .entry)) day) (held (now (place .entry))) ⌝ }
 {

@@ -21,11 +21,20 @@ pub enum Entry {
         last: u32,
     },
     /// One of two sides.
-    Choice { left: u16, right: u16 },
+    Choice {
+        left: u16,
+        right: u16,
+    },
     /// Both sides, their records in any mixture.
-    Both { left: u16, right: u16 },
+    Both {
+        left: u16,
+        right: u16,
+    },
     /// The left side, and behind it the right one.
-    Then { left: u16, right: u16 },
+    Then {
+        left: u16,
+        right: u16,
+    },
     /// A template's body, with slots filled by arguments.
     Call {
         template: u8,
@@ -33,9 +42,21 @@ pub enum Entry {
         arguments: u16,
     },
     /// A body that calls can name by its number, and the next template or 0.
-    Template { number: u8, body: u16, next: u16 },
+    Template {
+        number: u8,
+        body: u16,
+        next: u16,
+    },
     /// What a step asks of one field, 1 to 4, and the next condition or 0.
-    Condition { field: u8, test: Test, next: u16 },
+    Condition {
+        field: u8,
+        test: Test,
+        next: u16,
+    },
     /// What a call fills one slot with, and the next argument or 0.
-    Argument { slot: u8, value: Value, next: u16 },
+    Argument {
+        slot: u8,
+        value: Value,
+        next: u16,
+    },
 }

@@ -264,5 +264,9 @@ pub fn decode(bytes: &[u8]) -> Option<Entry>
     ensures value { λ r. ⌜ r ≡ entry-of (now (bytes .entry)) ⌝ }
     ensures listed { λ r. ⌜ Listed-if r ⌝ }
 {
-    if bytes.len() == ENTRY_BYTES { by_tag(bytes) } else { None }
+    if bytes.len() == ENTRY_BYTES {
+        by_tag(bytes)
+    } else {
+        None
+    }
 }

@@ -19,5 +19,9 @@ pub fn number(text: &[u8]) -> Option<u32>
             _ => return None,
         }
     }
-    if value <= u32::MAX as u64 { Some(value as u32) } else { None }
+    if value <= u32::MAX as u64 {
+        Some(value as u32)
+    } else {
+        None
+    }
 }

@@ -14,11 +14,14 @@ const CONTRACT: &str = "contract.bin";
 fn signing_day(rt: &LibcRuntime) -> Result<u32, AnyError> {
     let mut args = env::args(rt)?.skip(1);
     let day = match args.next() {
-        Some(text) => lines::number(text.as_bytes()).ok_or("DAY has to be a number of 1 to 10 digits that fits 32 bits, as in: vet 100")?,
+        Some(text) => lines::number(text.as_bytes()).ok_or(
+            "DAY has to be a number of 1 to 10 digits that fits 32 bits, as in: vet 100",
+        )?,
         None => 0,
     };
     match args.next() {
-        Some(_) => Err("too many arguments: vet takes one at the most, the signing day, as in: vet 100".into()),
+        Some(_) =>
+            Err("too many arguments: vet takes one at the most, the signing day, as in: vet 100".into()),
         None => Ok(day),
     }
 }

@@ -92,7 +92,10 @@ pub impl fmt::Display for EntryWords<'_> as EntryWordsDisplay {
             }
             Entry::Choice { left, right } => write!(f, "{n} choice, {left} or {right}"),
             Entry::Both { left, right } => write!(f, "{n} both, {left} and {right}"),
-            Entry::Then { left, right } => write!(f, "{n} then, first {left} and behind it {right}"),
+            Entry::Then { left, right } => write!(
+                f,
+                "{n} then, first {left} and behind it {right}"
+            ),
             Entry::Call {
                 template,
                 arguments: first_argument,

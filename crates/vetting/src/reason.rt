@@ -44,12 +44,21 @@ fn entry_in(bytes: &[u8], number: u16) -> Option<Entry> {
 fn length<W: fmt::Write>(bytes: &[u8], f: &mut fmt::Formatter<W>) -> fmt::Result {
     let size = bytes.len();
     if size > FILE_BYTES {
-        write!(f, "the file has more than the {FILE_BYTES} bytes of a head and 256 entries")
+        write!(
+            f,
+            "the file has more than the {FILE_BYTES} bytes of a head and 256 entries"
+        )
     } else if size < 8 {
-        write!(f, "the file has {size} bytes, which is less than the 8 of a head")
+        write!(
+            f,
+            "the file has {size} bytes, which is less than the 8 of a head"
+        )
     } else {
         let count = pair(bytes, 2);
-        write!(f, "the head tells {count} entries, and the file has {size} bytes, where 8 and 16 for each of 1 to 256 entries belong")
+        write!(
+            f,
+            "the head tells {count} entries, and the file has {size} bytes, where 8 and 16 for each of 1 to 256 entries belong"
+        )
     }
 }
 
@@ -66,22 +75,34 @@ fn unlisted<W: fmt::Write>(bytes: &[u8], i: u16, f: &mut fmt::Formatter<W>) -> f
         8 => "a template",
         9 => "a condition",
         10 => "an argument",
-        _ => return write!(f, "entry {i} has the tag {tag}, and there are only the tags 1 to 10"),
+        _ => return write!(
+            f,
+            "entry {i} has the tag {tag}, and there are only the tags 1 to 10"
+        ),
     };
-    write!(f, "entry {i}, {name}, has a value that is not listed, or something other than zero in a place that it does not use")
+    write!(
+        f,
+        "entry {i}, {name}, has a value that is not listed, or something other than zero in a place that it does not use"
+    )
 }
 
 fn pointer<W: fmt::Write>(bytes: &[u8], i: u16, f: &mut fmt::Formatter<W>) -> fmt::Result {
     if i == 0 {
         let contract = pair(bytes, 6);
         let templates = pair(bytes, 4);
-        return write!(f, "the head points to {contract} as the contract, which has to be a clause of the file, and to {templates} as the first template, which has to be a template of the file or 0");
+        return write!(
+            f,
+            "the head points to {contract} as the contract, which has to be a clause of the file, and to {templates} as the first template, which has to be a template of the file or 0"
+        );
     }
     let (a, b) = match entry_in(bytes, i) {
         Some(entry) => entry.pointers(),
         None => (0, 0),
     };
-    write!(f, "entry {i} points to {a} and {b}, and not each of them is an entry of the right sort with a higher number, or 0 where a chain may end")
+    write!(
+        f,
+        "entry {i} points to {a} and {b}, and not each of them is an entry of the right sort with a higher number, or 0 where a chain may end"
+    )
 }
 
 fn chain<W: fmt::Write>(
@@ -91,19 +112,31 @@ fn chain<W: fmt::Write>(
     f: &mut fmt::Formatter<W>,
 ) -> fmt::Result {
     match entry_in(bytes, i) {
-        Some(Entry::Template { number, .. }) => write!(f, "entry {i}, template {number}, does not stand at place {number} of the chain of templates"),
+        Some(Entry::Template { number, .. }) => write!(
+            f,
+            "entry {i}, template {number}, does not stand at place {number} of the chain of templates"
+        ),
         Some(Entry::Condition { field, .. }) => {
             let name = names.field(field);
-            write!(f, "entry {i}, a condition on field {field} ({name}), follows one on the same or a later field")
+            write!(
+                f,
+                "entry {i}, a condition on field {field} ({name}), follows one on the same or a later field"
+            )
         }
-        Some(Entry::Argument { slot, .. }) => write!(f, "entry {i}, an argument for slot {slot}, follows one for the same or a later slot"),
+        Some(Entry::Argument { slot, .. }) => write!(
+            f,
+            "entry {i}, an argument for slot {slot}, follows one for the same or a later slot"
+        ),
         _ => write!(f, "entry {i} has no right place in its chain"),
     }
 }
 
 fn call<W: fmt::Write>(bytes: &[u8], i: u16, f: &mut fmt::Formatter<W>) -> fmt::Result {
     match entry_in(bytes, i) {
-        Some(Entry::Call { template, .. }) => write!(f, "entry {i} calls template {template}, which does not stand on the chain of templates, or is not below the template whose body comes to this call with no step before it"),
+        Some(Entry::Call { template, .. }) => write!(
+            f,
+            "entry {i} calls template {template}, which does not stand on the chain of templates, or is not below the template whose body comes to this call with no step before it"
+        ),
         _ => write!(f, "entry {i} calls no right template"),
     }
 }
@@ -112,11 +145,20 @@ fn window<W: fmt::Write>(bytes: &[u8], i: u16, f: &mut fmt::Formatter<W>) -> fmt
     match entry_in(bytes, i) {
         Some(Entry::Step { first, last, .. }) => {
             if first > last {
-                write!(f, "entry {i}, a step, has its first day {first} after its last day {last}")
+                write!(
+                    f,
+                    "entry {i}, a step, has its first day {first} after its last day {last}"
+                )
             } else if last > LAST_DAY {
-                write!(f, "entry {i}, a step, has its last day {last} after the last day there is, {LAST_DAY}")
+                write!(
+                    f,
+                    "entry {i}, a step, has its last day {last} after the last day there is, {LAST_DAY}"
+                )
             } else {
-                write!(f, "entry {i}, a step by the calendar, is reached from the body of a template")
+                write!(
+                    f,
+                    "entry {i}, a step by the calendar, is reached from the body of a template"
+                )
             }
         }
         _ => write!(f, "entry {i} has no right window"),
@@ -156,11 +198,17 @@ pub impl fmt::Display for Reason<'_> as ReasonDisplay {
             Fault::Window(i) => window(bytes, i, f),
             Fault::Kind => {
                 let kind = byte(bytes, 0);
-                write!(f, "byte 0 is {kind}, and has to be 1 for transfers or 2 for inspections")
+                write!(
+                    f,
+                    "byte 0 is {kind}, and has to be 1 for transfers or 2 for inspections"
+                )
             }
             Fault::Inadmissible(i) => condition(self.names, bytes, i, f),
             Fault::Size => write!(f, "the contract has more than 256 nodes when it is opened"),
-            Fault::Day => write!(f, "the signing day {day} is after the last day there is, {LAST_DAY}"),
+            Fault::Day => write!(
+                f,
+                "the signing day {day} is after the last day there is, {LAST_DAY}"
+            ),
         }
     }
 }

@@ -5,11 +5,11 @@ ghost use Rattle.std.specs.Vec.{made};
 ghost use Rattle.vetting.specs.Told.{Told, Reported};
 use crate::entry_words::EntryWords;
 use crate::entry_words::EntryWordsDisplay;
-use crate::verdict::first_line;
 use crate::names::Names;
 use crate::reason::Reason;
 use crate::reason::ReasonDisplay;
 use crate::reason::byte;
+use crate::verdict::first_line;
 use approval::Checked;
 use approval::check;
 use contract_file::File;
@@ -44,7 +44,10 @@ fn listing(heap: Global, names: Names, checked: &Checked) -> Result<String, Allo
     let templates = templates(file);
     let nodes = checked.nodes();
     let contract = file.contract;
-    let mut text = format!(heap, "kind {number} ({kind}), signing day {day}, entries {count}, templates {templates}, nodes on opening {nodes}, contract at entry {contract}\n")?;
+    let mut text = format!(
+        heap,
+        "kind {number} ({kind}), signing day {day}, entries {count}, templates {templates}, nodes on opening {nodes}, contract at entry {contract}\n"
+    )?;
     for i in 1..count.saturating_add(1) {
         let words = EntryWords {
             names,
