@@ -32,7 +32,7 @@ fn call_right(file: &File, bare: &[u16; PLACES], i: usize, this: Entry) -> bool
 }
 
 /// Asks it of each entry, of a file whose pointers lead up.
-pub fn ask_calls(file: &File) -> Result<(), Fault>
+pub(crate) fn ask_calls(file: &File) -> Result<(), Fault>
     requires parsed { ⌜ Parsed (now file) ⌝ }
     requires up { ⌜ Passed (Pointers (now file)) ⌝ }
     ensures { λ r. ⌜ Asked (Calls (now (file .entry))) Call r ⌝ }

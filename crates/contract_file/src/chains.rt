@@ -76,7 +76,7 @@ fn rising(file: &File, floors: &[u16; PLACES], i: usize, this: Entry) -> bool
 }
 
 /// Asks it of each entry, of a file whose pointers lead up.
-pub fn ask_chains(file: &File) -> Result<(), Fault>
+pub(crate) fn ask_chains(file: &File) -> Result<(), Fault>
     requires parsed { ⌜ Parsed (now file) ⌝ }
     requires up { ⌜ Passed (Pointers (now file)) ⌝ }
     ensures { λ r. ⌜ Asked (Chained (now (file .entry))) Chain r ⌝ }

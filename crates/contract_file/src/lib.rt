@@ -18,5 +18,6 @@ pub use files::MOST_ENTRIES;
 pub use files::PLACES;
 pub use read_file::ReadFile;
 pub use reading::FILE_BYTES;
+pub use reading::HEAD_BYTES;
 pub use reading::read;
 pub use theorems::one_answer;

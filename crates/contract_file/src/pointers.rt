@@ -64,7 +64,7 @@ fn head_leads(file: &File) -> bool
 }
 
 /// Asks it of the head and of each entry.
-pub fn ask_pointers(file: &File) -> Result<(), Fault>
+pub(crate) fn ask_pointers(file: &File) -> Result<(), Fault>
     ensures { λ r. ⌜ Asked (Pointers (now (file .entry))) Pointer r ⌝ }
 {
     if !head_leads(file) {

@@ -52,7 +52,7 @@ fn onward(way: Way, this: &Entry) -> (u16, u16)
 }
 
 /// The lowest template that reaches each entry by a way.
-pub fn lowest(file: &File, way: Way) -> [u16; PLACES]
+pub(crate) fn lowest(file: &File, way: Way) -> [u16; PLACES]
     requires parsed { ⌜ Parsed (now file) ⌝ }
     requires up { ⌜ Passed (Pointers (now file)) ⌝ }
     ensures { λ r. ⌜ Lowest-reach way (now (file .entry) .entries) r ⌝ }

@@ -20,11 +20,15 @@ use crate::files::PLACES;
 use crate::pointers::ask_pointers;
 use crate::read_file::ReadFile;
 use crate::windows::ask_windows;
+use entries::ENTRY_BYTES;
 use entries::Entry;
 use entries::decode;
 use entries::two_bytes;
 
-/// The bytes of the longest file: a head of 8, and 256 entries of 16.
+/// How many bytes the head has.
+pub const HEAD_BYTES: usize = 8;
+
+/// The bytes of the longest file: a head, and 256 entries of 16.
 pub const FILE_BYTES: usize = 4104;
 
 /// Reads the entries behind the head into a table.
@@ -37,8 +41,8 @@ fn table(bytes: &[u8], count: u16) -> Result<[Entry; PLACES], Fault>
 {
     let mut entries = [Entry::Lost; PLACES];
     for i in 1..count + 1 {
-        let at = 16 * i as usize - 8;
-        entries[i as usize] = decode(&bytes[at..at + 16]).ok_or(Fault::Unlisted(i))?;
+        let at = ENTRY_BYTES * i as usize - HEAD_BYTES;
+        entries[i as usize] = decode(&bytes[at..at + ENTRY_BYTES]).ok_or(Fault::Unlisted(i))?;
     }
     Ok(entries)
 }
@@ -53,7 +57,7 @@ fn parse(bytes: &[u8]) -> Result<File, Fault>
         return Err(Fault::Length);
     };
     let count = two_bytes(*n1, *n2);
-    if count < 1 || count > MOST_ENTRIES || rest.len() != 16 * count as usize {
+    if count < 1 || count > MOST_ENTRIES || rest.len() != ENTRY_BYTES * count as usize {
         return Err(Fault::Length);
     }
     if *version != 1 {

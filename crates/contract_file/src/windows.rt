@@ -38,7 +38,7 @@ fn window_right(file: &File, reached: &[u16; PLACES], i: usize, this: Entry) -> 
 }
 
 /// Asks it of each entry, of a file whose pointers lead up.
-pub fn ask_windows(file: &File) -> Result<(), Fault>
+pub(crate) fn ask_windows(file: &File) -> Result<(), Fault>
     requires parsed { ⌜ Parsed (now file) ⌝ }
     requires up { ⌜ Passed (Pointers (now file)) ⌝ }
     ensures { λ r. ⌜ Asked (Windows (now (file .entry))) Window r ⌝ }

@@ -77,8 +77,8 @@ fn called(file: &File, shapes: &[Shape; PLACES]) -> [Shape; TEMPLATES]
 {
     let lost = Shape::lost();
     let mut calls = [lost; TEMPLATES];
-    for k in 1..17u8 {
-        calls[k as usize] = shape_at(shapes, body(file, k) as usize);
+    for k in 1..TEMPLATES {
+        calls[k] = shape_at(shapes, body(file, k as u8) as usize);
     }
     calls
 }
@@ -91,7 +91,7 @@ fn rounds(file: &File) -> [Shape; PLACES]
 {
     let lost = Shape::lost();
     let mut calls = [lost; TEMPLATES];
-    for _ in 0..17u8 {
+    for _ in 0..TEMPLATES {
         let shapes = pass(file, &calls);
         calls = called(file, &shapes);
     }

@@ -3,6 +3,9 @@ ghost use mathlib.Core.Path.{_≡_};
 ghost use Rattle.openings.specs.Rounds.{of};
 ghost use Rattle.openings.specs.Shapes.{lost-shape, done-shape, leaf-shape, choice-node, both-node, follow-node, choice-shape, both-shape, follow-shape, then-shape};
 
+/// Sizes are held at this: one node more than a term may have.
+const FULL: u16 = 257;
+
 /// How many nodes a term has, held at 257, whether it is lost or done, and whether it may end.
 #[derive(Clone, Copy)]
 pub struct Shape {
@@ -51,7 +54,7 @@ impl Shape {
         ensures { λ s. ⌜ s ≡ choice-node l r ⌝ }
     {
         Shape {
-            size: l.size.saturating_add(r.size).saturating_add(1).min(257),
+            size: l.size.saturating_add(r.size).saturating_add(1).min(FULL),
             lost: false,
             done: false,
             ends: l.ends | r.ends,
@@ -63,7 +66,7 @@ impl Shape {
         ensures { λ s. ⌜ s ≡ both-node l r ⌝ }
     {
         Shape {
-            size: l.size.saturating_add(r.size).saturating_add(1).min(257),
+            size: l.size.saturating_add(r.size).saturating_add(1).min(FULL),
             lost: false,
             done: false,
             ends: l.ends & r.ends,
@@ -75,7 +78,7 @@ impl Shape {
         ensures { λ s. ⌜ s ≡ follow-node t ⌝ }
     {
         Shape {
-            size: t.size.saturating_add(1).min(257),
+            size: t.size.saturating_add(1).min(FULL),
             lost: false,
             done: false,
             ends: false,

@@ -6,6 +6,8 @@ use crate::test_words::TestWords;
 use crate::test_words::TestWordsDisplay;
 use contract_file::FILE_BYTES;
 use contract_file::Fault;
+use contract_file::HEAD_BYTES;
+use entries::ENTRY_BYTES;
 use entries::Entry;
 use entries::decode;
 use kinds::LAST_DAY;
@@ -34,8 +36,8 @@ fn pair(bytes: &[u8], at: usize) -> u16 {
 
 /// The entry of a number, if it is listed.
 fn entry_in(bytes: &[u8], number: u16) -> Option<Entry> {
-    let end = 16 * number as usize + 8;
-    match bytes.get(end.saturating_sub(16)..end) {
+    let end = ENTRY_BYTES * number as usize + HEAD_BYTES;
+    match bytes.get(end.saturating_sub(ENTRY_BYTES)..end) {
         Some(part) => decode(part),
         None => None,
     }
@@ -48,10 +50,10 @@ fn length<W: fmt::Write>(bytes: &[u8], f: &mut fmt::Formatter<W>) -> fmt::Result
             f,
             "the file has more than the {FILE_BYTES} bytes of a head and 256 entries"
         )
-    } else if size < 8 {
+    } else if size < HEAD_BYTES {
         write!(
             f,
-            "the file has {size} bytes, which is less than the 8 of a head"
+            "the file has {size} bytes, which is less than the {HEAD_BYTES} of a head"
         )
     } else {
         let count = pair(bytes, 2);
@@ -63,7 +65,7 @@ fn length<W: fmt::Write>(bytes: &[u8], f: &mut fmt::Formatter<W>) -> fmt::Result
 }
 
 fn unlisted<W: fmt::Write>(bytes: &[u8], i: u16, f: &mut fmt::Formatter<W>) -> fmt::Result {
-    let tag = byte(bytes, (16 * i as usize).saturating_sub(8));
+    let tag = byte(bytes, (ENTRY_BYTES * i as usize).saturating_sub(HEAD_BYTES));
     let name = match tag {
         1 => "a done",
         2 => "a lost",
