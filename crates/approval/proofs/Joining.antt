@@ -15,7 +15,7 @@ use Rattle.contract_file.specs.Faults.{fault-number, fault-entry}
 use Rattle.contract_file.specs.Asking.{Question, unasked, nth, Passed, Lowest, Refused}
 use Rattle.contract_file.specs.Files.{decoded}
 use Rattle.contract_file.specs.Questions.{reading}
-use Rattle.approval.specs.Approving.{approvals, approving, checking}
+use Rattle.answers.specs.Approving.{approvals, approving, checking}
 use Rattle.contract_file.proofs.Passing.{Below}
 
 abbrev eight : List Question

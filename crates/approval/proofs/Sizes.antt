@@ -15,8 +15,8 @@ use Rattle.openings.specs.declared.shapes.Shape.{Shape}
 use Rattle.openings.specs.Clauses.{clause-at, templates-of}
 use Rattle.openings.specs.Rounds.{of}
 use Rattle.openings.specs.Shapes.{Known}
-use Rattle.openings.proofs.Unfolding.{unfolds-to}
-use Rattle.approval.specs.Approving.{contract-opened}
+use Rattle.openings.proofs.Unfolding.{leading, unfolds-to}
+use Rattle.answers.specs.Approving.{contract-opened}
 
 -- where the contract is small, the table has its very size
 pub size-told : (f : File) (day : ℕ) (s : List Shape) → Known f s → nodes (contract-opened f day) ≤ 256 → of s (f .contract) .size ≡ nodes (contract-opened f day)
@@ -29,6 +29,6 @@ lost-opened T row base = refl
 
 pub fresh-small : (f : File) → f ≡ fresh → nodes (contract-opened f 0) ≤ 256
 fresh-small f same =
-    let one : clause-at fresh 1 ≡ lost = unfolds-to fresh fresh-sound 1 entries.Lost refl in
+    let one : clause-at fresh 1 ≡ lost = unfolds-to fresh (leading fresh fresh-sound) 1 entries.Lost refl in
     let size : nodes (contract-opened fresh 0) ≡ 1 = ap (λ c. nodes (opened (templates-of fresh) c zeros 0)) one ∙ lost-opened (templates-of fresh) zeros 0 in
     rw same (omega arith)

@@ -1,3 +1,1 @@
-pub mod Approving
 pub mod Contents
-pub mod Unique

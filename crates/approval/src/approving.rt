@@ -6,7 +6,7 @@ ghost use Rattle.std.specs.Vec.{made};
 ghost use Rattle.contract_file.specs.declared.faults.Fault.the-variants.{Inadmissible};
 ghost use Rattle.contract_file.specs.Asking.{Asked, Answers};
 ghost use Rattle.openings.specs.Shapes.{Known, openings-of};
-ghost use Rattle.approval.specs.Approving.{Admitted, Conditions, approving};
+ghost use Rattle.answers.specs.Approving.{Admitted, Conditions, approving};
 use contract_file::Fault;
 use contract_file::File;
 use contract_file::PLACES;

@@ -3,7 +3,7 @@ ghost use Prim.Native.Nat.{ℕ, _≤_};
 ghost use Rattle.kinds.specs.Rows.{zeros};
 ghost use Rattle.language.specs.Terms.{nodes};
 ghost use Rattle.openings.specs.Shapes.{Known};
-ghost use Rattle.approval.specs.Approving.{contract-opened};
+ghost use Rattle.answers.specs.Approving.{contract-opened};
 use contract_file::PLACES;
 use contract_file::ReadFile;
 use openings::Shape;

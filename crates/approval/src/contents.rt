@@ -1,7 +1,7 @@
 //! What a checked file holds.
 ghost use mathlib.Core.Path.{_≡_};
 ghost use Rattle.language.specs.Terms.{nodes};
-ghost use Rattle.approval.specs.Approving.{contract-opened};
+ghost use Rattle.answers.specs.Approving.{contract-opened};
 ghost use Rattle.approval.specs.Contents.{held, unsigned};
 use crate::checked::Checked;
 use contract_file::File;

@@ -3,9 +3,7 @@ mod approving;
 mod checked;
 mod checking;
 mod contents;
-mod theorems;
 
 pub use approving::approve;
 pub use checked::Checked;
 pub use checking::check;
-pub use theorems::one_answer;

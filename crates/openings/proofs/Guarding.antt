@@ -20,7 +20,7 @@ use Rattle.contract_file.specs.Reach.{Bare, at-body, further}
 use Rattle.contract_file.specs.Sound.{Sound}
 use Rattle.contract_file.proofs.Along.{chain-more}
 use Rattle.openings.specs.Clauses.{clause-by, clause-of, clause-at, body-of, body-at, templates-of}
-use Rattle.openings.proofs.Unfolding.{leads-at, unfolds-none, body-is, body-past}
+use Rattle.openings.proofs.Unfolding.{leading, leads-at, unfolds-none, body-is, body-past}
 
 module _ (f : File) (sound : Sound f) where
   abbrev es : List Entry
@@ -51,7 +51,7 @@ module _ (f : File) (sound : Sound f) where
   bare-of : (n k i : ℕ) → Bare es k i → Bare-below k (clause-of f n i)
   unfolding clause-of
   bare-of zero k i bare = tt
-  bare-of (suc n) k i bare = bare-by k i (clause-of f n) bare (λ l. bare-of n k l) (at es i) refl (leads-at f sound i) (sound .calls i)
+  bare-of (suc n) k i bare = bare-by k i (clause-of f n) bare (λ l. bare-of n k l) (at es i) refl (leads-at f (leading f sound) i) (sound .calls i)
 
   -- the chain of templates goes up as long as it goes on
   next-up : (i : ℕ) (e : Entry) → Entry-leads f i e → 0 < next-template e → i < next-template e
@@ -69,7 +69,7 @@ module _ (f : File) (sound : Sound f) where
   chain-up : (k : ℕ) → 0 < k → 0 < chain f (k + 1) → chain f k < chain f (k + 1)
   chain-up k some h =
       let next = chain-more f k some in
-      rw next (next-up (chain f k) (at es (chain f k)) (leads-at f sound (chain f k)) (rw next at h))
+      rw next (next-up (chain f k) (at es (chain f k)) (leads-at f (leading f sound) (chain f k)) (rw next at h))
 
   chain-goes : (k : ℕ) → 0 < k → 0 < chain f (k + 1) → 0 < chain f k
   chain-goes k some h =
@@ -105,7 +105,7 @@ module _ (f : File) (sound : Sound f) where
       ]
 
   nothing : (k : ℕ) → Bare-below k (clause-at f 0)
-  nothing k = subst (Bare-below k) (sym (unfolds-none f sound)) tt
+  nothing k = subst (Bare-below k) (sym (unfolds-none f (leading f sound))) tt
 
   named : (k t b n : ℕ) → t ≡ k → at es (chain f k) ≡ Template t b n → Bare-below k (clause-at f b)
   unfolding clause-at

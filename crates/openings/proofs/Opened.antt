@@ -17,14 +17,13 @@ use Rattle.entries.specs.declared.entries.Entry.{Entry}
 use Rattle.entries.specs.declared.entries.Entry.the-variants as entries
 use Rattle.contract_file.specs.declared.files.File.{File}
 use Rattle.contract_file.specs.Pointing.{Entry-leads}
-use Rattle.contract_file.specs.Sound.{Sound}
 use Rattle.entries.specs.Parts.{at}
 use Rattle.openings.specs.declared.shapes.Shape.{Shape}
 use Rattle.openings.specs.Clauses.{clause-by, clause-at, templates-of, body-at}
 use Rattle.openings.specs.Shapes.{shape-of, lost-shape, choice-shape, both-shape, then-shape, Known, Known-calls, openings-of}
 use Rattle.openings.specs.Rounds.{of, entry-shape, clause-shape, Passed, Called}
 use Rattle.openings.proofs.Shaping.{choice-shape-is, both-shape-is, then-shape-is}
-use Rattle.openings.proofs.Unfolding.{leads-at, unfolds, unfolds-past, body-is, body-past, sixteen}
+use Rattle.openings.proofs.Unfolding.{Leading, leads-at, unfolds, unfolds-past, body-is, body-past, sixteen}
 
 pub none-known : (n k : ℕ) → of (replicate n lost-shape) k ≡ lost-shape
 none-known n k = elim (decLe n k) [
@@ -50,7 +49,7 @@ called-none f s x e = record {
 }
 
 -- one entry of a pass
-module _ (f : File) (sound : Sound f) (calls : List Shape) where
+module _ (f : File) (up : Leading f) (calls : List Shape) where
   entry-is : (s : List Shape) (i : ℕ) → ((k : ℕ) → i < k → of s k ≡ clause-shape calls (clause-at f k)) → (e : Entry) → Entry-leads f i e
       → entry-shape s calls e ≡ clause-shape calls (clause-by f (clause-at f) i e)
   entry-is s i h entries.Lost p = refl
@@ -72,8 +71,8 @@ module _ (f : File) (sound : Sound f) (calls : List Shape) where
           let inside : i < length s = omega (arith, inv .0) in
           let here : getD (set s i x) i lost-shape ≡ x = rw getD-set-same in
           ap (of (set s i x)) same ∙ here ∙ ex ∙ ap (entry-shape s calls) ee
-          ∙ entry-is s i (λ q h. inv .1 q (omega arith)) (at (f .entries) i) (leads-at f sound i)
-          ∙ ap (clause-shape calls) (sym (unfolds f sound i)) ∙ sym (ap (λ q. clause-shape calls (clause-at f q)) same))
+          ∙ entry-is s i (λ q h. inv .1 q (omega arith)) (at (f .entries) i) (leads-at f up i)
+          ∙ ap (clause-shape calls) (sym (unfolds f up i)) ∙ sym (ap (λ q. clause-shape calls (clause-at f q)) same))
       | no j ↦ (let ne : k ≢ i = omega arith in
           let there : getD (set s i x) k lost-shape ≡ getD s k lost-shape = rw getD-set-other in
           there ∙ inv .1 k (omega arith))
@@ -82,7 +81,7 @@ module _ (f : File) (sound : Sound f) (calls : List Shape) where
 
   -- past the last entry nothing stands
   pub pass-none : (i : ℕ) → 257 ≤ i → clause-shape calls (clause-at f i) ≡ lost-shape
-  pass-none i h = ap (clause-shape calls) (unfolds-past f sound i h)
+  pass-none i h = ap (clause-shape calls) (unfolds-past f up i h)
 
 -- a clause opened has the shape told
 module _ (calls : List Shape) (by : ℕ → Row → ℕ → Term) (known : (k : ℕ) (row : Row) (base : ℕ) → of calls k ≡ shape-of (by k row base)) where

@@ -12,7 +12,8 @@ use Rattle.entries.specs.declared.entries.Entry.{Entry}
 use Rattle.entries.specs.declared.entries.Entry.the-variants.{Lost, Done, Step, Choice, Both, Then, Call, Template, Condition, Argument}
 use Rattle.entries.specs.Parts.{at}
 use Rattle.contract_file.specs.declared.files.File.{File}
-use Rattle.contract_file.specs.Pointing.{Entry-leads}
+use Rattle.contract_file.specs.Asking.{Passed}
+use Rattle.contract_file.specs.Pointing.{Entry-leads, Pointers}
 use Rattle.contract_file.specs.Sound.{Sound}
 use Rattle.openings.specs.Clauses.{window, conditions-at, clause-by, clause-of, clause-at, body-at, templates-of}
 
@@ -29,9 +30,19 @@ by-same f a b i h (Template k b′ n) p = refl
 by-same f a b i h (Condition k t n) p = refl
 by-same f a b i h (Argument s v n) p = refl
 
-module _ (f : File) (sound : Sound f) where
+-- what unfolding asks of a file: a table that ends, whose pointers lead up
+pub record Leading (f : File) : Type 0 where
+  pub few : f .count ≤ 256
+  pub long : length (f .entries) ≡ 257
+  pub nowhere : at (f .entries) 0 ≡ Lost
+  pub pointers : Passed (Pointers f)
+
+pub leading : (f : File) → Sound f → Leading f
+leading f sound = record { few = sound .parsed .few; long = sound .parsed .long; nowhere = sound .parsed .nowhere; pointers = sound .pointers }
+
+module _ (f : File) (up : Leading f) where
   pub leads-at : (i : ℕ) → Entry-leads f i (at (f .entries) i)
-  leads-at i = sound .pointers i .1
+  leads-at i = up .pointers i .1
 
   -- enough pointers are enough
   enough : (n m i : ℕ) → i ≤ 256 → 256 - i < n → 256 - i < m → clause-of f n i ≡ clause-of f m i
@@ -40,7 +51,7 @@ module _ (f : File) (sound : Sound f) where
   enough (suc n) zero i w h k = absurd (omega arith)
   enough (suc n) (suc m) i w h k =
       by-same f (clause-of f n) (clause-of f m) i
-      (λ l up top. enough n m l (omega (arith, sound .parsed .few)) (omega (arith, sound .parsed .few)) (omega (arith, sound .parsed .few)))
+      (λ l higher top. enough n m l (omega (arith, up .few)) (omega (arith, up .few)) (omega (arith, up .few)))
       (at (f .entries) i) (leads-at i)
 
   -- the law: an entry's clause by what stands in the entry
@@ -48,7 +59,7 @@ module _ (f : File) (sound : Sound f) where
   unfolding clause-at clause-of
   unfolds i =
       by-same f (clause-of f 256) (clause-at f) i
-      (λ l up top. enough 256 257 l (omega (arith, sound .parsed .few)) (omega (arith, sound .parsed .few)) (omega (arith, sound .parsed .few)))
+      (λ l higher top. enough 256 257 l (omega (arith, up .few)) (omega (arith, up .few)) (omega (arith, up .few)))
       (at (f .entries) i) (leads-at i)
 
   -- and by its tag
@@ -57,10 +68,10 @@ module _ (f : File) (sound : Sound f) where
 
   -- no entry has the number 0, and past the last there is none
   pub unfolds-none : clause-at f 0 ≡ lost
-  unfolds-none = unfolds-to 0 Lost (sound .parsed .nowhere)
+  unfolds-none = unfolds-to 0 Lost (up .nowhere)
 
   pub unfolds-past : (i : ℕ) → 257 ≤ i → clause-at f i ≡ lost
-  unfolds-past i h = unfolds-to i Lost (getD-past (f .entries) i Lost (omega (arith, sound .parsed .long)))
+  unfolds-past i h = unfolds-to i Lost (getD-past (f .entries) i Lost (omega (arith, up .long)))
 
 -- templates by their number
 pub body-is : (f : File) (k : ℕ) → 0 < k → k ≤ 16 → body (templates-of f) k ≡ clause-at f (body-at f k)

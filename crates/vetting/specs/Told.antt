@@ -14,8 +14,7 @@ use Rattle.kinds.specs.Transfers.{transfers}
 use Rattle.kinds.specs.Inspections.{inspections}
 use Rattle.contract_file.specs.declared.faults.Fault.{Fault}
 use Rattle.contract_file.specs.Faults.{fault-number, fault-entry}
-use Rattle.contract_file.specs.Asking.{Answers}
-use Rattle.approval.specs.Approving.{checking}
+use Rattle.answers.specs.Computed.{computed}
 
 -- "ok", or "no" with the question and the entry at fault
 abbrev pub line-of : Result (Unit {0}) Fault → List ℕ
@@ -24,10 +23,8 @@ line-of (Err f) = codes "no " ++ (decimal (fault-number f) ++ (codes " " ++ (dec
 
 -- a text that begins with the answer; what stands behind is for people
 pub record Told (number : ℕ) (admits : ℕ → Test → Bool) (day : ℕ) (b text : List ℕ) : Type 0 where
-  pub answer : Result (Unit {0}) Fault
-  pub right : Answers (checking number admits day b) 12 answer
   pub words : List ℕ
-  pub whole : text ≡ line-of answer ++ words
+  pub whole : text ≡ line-of (computed number admits day b) ++ words
 
 -- byte 0 picks the kind: inspections if it is 2, and otherwise transfers
 abbrev pub Reported : ℕ → List ℕ → List ℕ → Type 0

@@ -1,5 +1,5 @@
 use Rattle.contract_file.proofs.Everywhere.{everywhere}
-use Rattle.approval.specs.Approving.{Admitted}
+use Rattle.answers.specs.Approving.{Admitted}
 use Rattle.approval.proofs.approving.ask_conditions.Needs as need
 
 pub returns : need.returns

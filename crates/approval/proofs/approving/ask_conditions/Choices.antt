@@ -1,5 +1,5 @@
 use Prim.Native.Nat.{ℕ, _<_}
-use Rattle.approval.specs.Approving.{Conditions}
+use Rattle.answers.specs.Approving.{Conditions}
 use Rattle.approval.proofs.approving.ask_conditions.Given as given
 
 abbrev pub Inv-loop-i : given.InvT-loop-i

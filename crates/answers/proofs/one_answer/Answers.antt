@@ -1,6 +1,6 @@
 use Rattle.contract_file.proofs.OneAnswer.{one-answer}
-use Rattle.approval.specs.Approving.{checking}
-use Rattle.approval.proofs.theorems.one_answer.Needs as need
+use Rattle.answers.specs.Approving.{checking}
+use Rattle.answers.proofs.one_answer.Needs as need
 
 pub returns : need.returns
 returns g c number day b = one-answer (checking number _ day b) 12

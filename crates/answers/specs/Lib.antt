@@ -1,0 +1,4 @@
+pub mod Approving
+pub mod Computed
+pub mod Unique
+pub mod Worked
