@@ -16,7 +16,7 @@ pub struct Shape {
 }
 
 impl Shape {
-    pub fn lost() -> Shape
+    pub(crate) fn lost() -> Shape
         ensures { λ r. ⌜ r ≡ lost-shape ⌝ }
     {
         Shape {
@@ -27,7 +27,7 @@ impl Shape {
         }
     }
 
-    pub fn done() -> Shape
+    pub(crate) fn done() -> Shape
         ensures { λ r. ⌜ r ≡ done-shape ⌝ }
     {
         Shape {
@@ -38,7 +38,7 @@ impl Shape {
         }
     }
 
-    pub fn leaf() -> Shape
+    pub(crate) fn leaf() -> Shape
         ensures { λ r. ⌜ r ≡ leaf-shape ⌝ }
     {
         Shape {
@@ -50,7 +50,7 @@ impl Shape {
     }
 
     /// A choice as it stands.
-    pub fn choice_node(l: Shape, r: Shape) -> Shape
+    pub(crate) fn choice_node(l: Shape, r: Shape) -> Shape
         ensures { λ s. ⌜ s ≡ choice-node l r ⌝ }
     {
         Shape {
@@ -62,7 +62,7 @@ impl Shape {
     }
 
     /// A both as it stands.
-    pub fn both_node(l: Shape, r: Shape) -> Shape
+    pub(crate) fn both_node(l: Shape, r: Shape) -> Shape
         ensures { λ s. ⌜ s ≡ both-node l r ⌝ }
     {
         Shape {
@@ -74,7 +74,7 @@ impl Shape {
     }
 
     /// A follow as it stands.
-    pub fn follow_node(t: Shape) -> Shape
+    pub(crate) fn follow_node(t: Shape) -> Shape
         ensures { λ s. ⌜ s ≡ follow-node t ⌝ }
     {
         Shape {
@@ -86,7 +86,7 @@ impl Shape {
     }
 
     /// A choice, tidied.
-    pub fn choice_of(l: Shape, r: Shape) -> Shape
+    pub(crate) fn choice_of(l: Shape, r: Shape) -> Shape
         ensures { λ s. ⌜ s ≡ choice-shape l r ⌝ }
     {
         if l.lost {
@@ -99,7 +99,7 @@ impl Shape {
     }
 
     /// A both, tidied.
-    pub fn both_of(l: Shape, r: Shape) -> Shape
+    pub(crate) fn both_of(l: Shape, r: Shape) -> Shape
         ensures { λ s. ⌜ s ≡ both-shape l r ⌝ }
     {
         if l.lost | r.lost {
@@ -114,7 +114,7 @@ impl Shape {
     }
 
     /// A follow of a term, tidied.
-    pub fn follow_of(t: Shape) -> Shape
+    pub(crate) fn follow_of(t: Shape) -> Shape
         ensures { λ s. ⌜ s ≡ follow-shape t ⌝ }
     {
         if t.done | t.lost {
@@ -125,7 +125,7 @@ impl Shape {
     }
 
     /// A term and then a clause that opens to `o`, tidied.
-    pub fn then_of(t: Shape, o: Shape) -> Shape
+    pub(crate) fn then_of(t: Shape, o: Shape) -> Shape
         ensures { λ s. ⌜ s ≡ then-shape t o ⌝ }
     {
         if t.ends {
