@@ -29,7 +29,7 @@ use entries::two_bytes;
 pub const HEAD_BYTES: usize = 8;
 
 /// The bytes of the longest file: a head, and 256 entries of 16.
-pub const FILE_BYTES: usize = 4104;
+pub const FILE_BYTES: usize = HEAD_BYTES + ENTRY_BYTES * MOST_ENTRIES as usize;
 
 /// Reads the entries behind the head into a table.
 fn table(bytes: &[u8], count: u16) -> Result<[Entry; PLACES], Fault>
