@@ -3,12 +3,6 @@ ghost use mathlib.Core.Path.{_≡_};
 ghost use Rattle.std.specs.Of.String.{string-bytes};
 ghost use Rattle.std.specs.Vec.{made};
 ghost use Rattle.vetting.specs.Told.{Told, Reported};
-use crate::entry_words::EntryWords;
-use crate::entry_words::EntryWordsDisplay;
-use crate::names::Names;
-use crate::reason::Reason;
-use crate::reason::ReasonDisplay;
-use crate::reason::byte;
 use crate::verdict::first_line;
 use approval::Checked;
 use approval::check;
@@ -21,6 +15,12 @@ use kinds::Transfers;
 use kinds::TransfersKind;
 use std::alloc::AllocError;
 use std::alloc::Global;
+use words::EntryWords;
+use words::EntryWordsDisplay;
+use words::Names;
+use words::Reason;
+use words::ReasonDisplay;
+use words::byte;
 
 /// How many templates a file has.
 fn templates(file: &File) -> u16 {
@@ -49,12 +49,12 @@ fn listing(heap: Global, names: Names, checked: &Checked) -> Result<String, Allo
         "kind {number} ({kind}), signing day {day}, entries {count}, templates {templates}, nodes on opening {nodes}, contract at entry {contract}\n"
     )?;
     for i in 1..count.saturating_add(1) {
-        let words = EntryWords {
+        let entry = EntryWords {
             names,
             file,
             number: i,
         };
-        let line = format!(heap, "{words}\n")?;
+        let line = format!(heap, "{entry}\n")?;
         text.push_str(line.as_str())?;
     }
     Ok(text)
