@@ -1,4 +1,17 @@
 //! How cases are written, and how they are run.
+//!
+//! A case is a line of four parts, with `|` between them.
+//! - What it is, in words.
+//! - What is told: the question that fails and the entry at fault, or, if the file passes, 0 and how many nodes its
+//!   contract opens to.
+//! - The head: kind, version, count of entries, first template, contract. Behind these may stand the signing day, and a
+//!   length that the file is cut to or filled up to with zeros.
+//! - The entries, with `;` between them. Each is its numbers in the order of the file: tag, k, a, b, next, u, v. Behind
+//!   these may stand how often the entry is written.
+//!
+//! Numbers that are left out at the end are 0. For a and b, `>` is the number of the entry behind.
+//!
+//! The tags are 1 done, 2 lost, 3 step, 4 choice, 5 both, 6 then, 7 call, 8 template, 9 condition, 10 argument.
 use approval::Checked;
 use approval::check;
 use kinds::Inspections;
@@ -12,7 +25,7 @@ use std::test::Fail;
 use std::test::Note;
 use std::test::check_eq;
 
-/// Eight numbers; place 0 is what stands before the first space.
+/// The numbers of a part, from place 1 on; place 0 has what stands before the first blank.
 pub type Row = [u32; 9];
 
 /// For `>`, the number of the next entry.
