@@ -4,16 +4,32 @@
 //! - What it is, in words.
 //! - What is told: the question that fails and the entry at fault, or, if the file passes, 0 and how many nodes its
 //!   contract opens to.
-//! - The head: kind, version, count of entries, first template, contract. Behind these may stand the signing day, and a
-//!   length that the file is cut to or filled up to with zeros.
+//! - The head: kind, version, count of entries, first template, contract. Behind these may stand the signing day, a
+//!   length that the file is cut to or filled up to with zeros, and the kind that the file is checked with, where it
+//!   is not the file's own.
 //! - The entries, with `;` between them. Each is its numbers in the order of the file: tag, k, a, b, next, u, v. Behind
 //!   these may stand how often the entry is written.
 //!
 //! Numbers that are left out at the end are 0. For a and b, `>` is the number of the entry behind.
 //!
 //! The tags are 1 done, 2 lost, 3 step, 4 choice, 5 both, 6 then, 7 call, 8 template, 9 condition, 10 argument.
+mod admitted;
+mod calls;
+mod chains;
+mod costly;
+mod examples;
+mod lengths;
+mod order;
+mod places;
+mod pointers;
+mod sizes;
+mod values;
+mod windows;
+
 use approval::Checked;
 use approval::check;
+use contract_file::ReadFile;
+use contract_file::read;
 use kinds::Inspections;
 use kinds::InspectionsKind;
 use kinds::Transfers;
@@ -25,110 +41,81 @@ use std::test::Fail;
 use std::test::Note;
 use std::test::check_eq;
 
-/// The numbers of a part, from place 1 on; place 0 has what stands before the first blank.
-pub type Row = [u32; 9];
+/// Up to eight numbers, from place 1 on: each has a space before it.
+type Numbers = [u32; 9];
 
-/// For `>`, the number of the next entry.
-const NEXT: u32 = 70000;
+/// What `>` is read as; an a or a b is less.
+const BEHIND: u32 = 65536;
 
-/// A number with one more digit behind it.
+/// A number with one more digit, or what `>` is read as.
 fn longer(number: u32, digit: u8) -> u32 {
     match digit {
         b'0'..=b'9' => number
             .wrapping_mul(10)
             .wrapping_add(u32::from(digit - b'0')),
-        _ => NEXT,
+        _ => BEHIND,
     }
 }
 
-/// The rows of a line.
-pub fn rows(heap: Global, line: &[u8]) -> Result<Vec<Row>, AllocError> {
-    let mut rows = Vec::new(heap);
-    let mut row = [0; 9];
-    let mut i = 0usize;
+/// The numbers of each part of a line, those of each entry apart. Those of the first part, the words, mean nothing.
+fn parts(heap: Global, line: &[u8]) -> Result<Vec<Numbers>, AllocError> {
+    let mut parts = Vec::new(heap);
+    let mut numbers = [0; 9];
+    let mut place = 0usize;
     for byte in line {
         match *byte {
             b'|' | b';' => {
-                rows.push(row)?;
-                row = [0; 9];
-                i = 0;
+                parts.push(numbers)?;
+                numbers = [0; 9];
+                place = 0;
             }
-            b' ' => i = i.wrapping_add(1),
+            b' ' => place = place.wrapping_add(1),
             digit => {
-                if i < 9 {
-                    row[i] = longer(row[i], digit);
+                if place < 9 {
+                    numbers[place] = longer(numbers[place], digit);
                 }
             }
         }
     }
-    rows.push(row)?;
-    Ok(rows)
+    parts.push(numbers)?;
+    Ok(parts)
 }
 
-/// The bytes of an entry. The first eight are a head's, if its numbers are given.
-fn entry_bytes(row: &Row) -> [u8; 16] {
-    let [_, tag, k, a, b, next, u, v, _] = *row;
-    let [_, _, _, tag] = tag.to_be_bytes();
-    let [_, _, _, k] = k.to_be_bytes();
-    let [_, _, a1, a2] = a.to_be_bytes();
-    let [_, _, b1, b2] = b.to_be_bytes();
-    let [_, _, n1, n2] = next.to_be_bytes();
-    let [u1, u2, u3, u4] = u.to_be_bytes();
-    let [v1, v2, v3, v4] = v.to_be_bytes();
-    [
-        tag,
-        k,
-        a1,
-        a2,
-        b1,
-        b2,
-        n1,
-        n2,
-        u1,
-        u2,
-        u3,
-        u4,
-        v1,
-        v2,
-        v3,
-        v4,
-    ]
+/// The bytes of a head, which are also those of the first five numbers of an entry.
+fn first_bytes(numbers: &Numbers) -> [u8; 8] {
+    let [_, tag, k, a, b, next, ..] = *numbers;
+    let high = u64::from(tag) << 56 | u64::from(k) << 48 | u64::from(a) << 32;
+    (high | u64::from(b) << 16 | u64::from(next)).to_be_bytes()
+}
+
+/// The bytes of the u and the v of an entry.
+fn last_bytes(numbers: &Numbers) -> [u8; 8] {
+    (u64::from(numbers[6]) << 32 | u64::from(numbers[7])).to_be_bytes()
 }
 
 /// Appends an entry, as often as its eighth number says, and once if that is 0.
-fn append(bytes: &mut Vec<u8>, row: &Row) -> Result<(), AllocError> {
-    for _ in 0..row[8].max(1) {
-        let next = u32::try_from(bytes.len() / 16).unwrap_or(0).wrapping_add(2);
-        let mut entry = *row;
-        if entry[3] == NEXT {
-            entry[3] = next;
+fn append_entry(bytes: &mut Vec<u8>, numbers: &Numbers) -> Result<(), AllocError> {
+    for _ in 0..numbers[8].max(1) {
+        let behind = u32::try_from(bytes.len() / 16).unwrap_or(0).wrapping_add(2);
+        let mut entry = *numbers;
+        if entry[3] == BEHIND {
+            entry[3] = behind;
         }
-        if entry[4] == NEXT {
-            entry[4] = next;
+        if entry[4] == BEHIND {
+            entry[4] = behind;
         }
-        bytes.extend_from_slice(&entry_bytes(&entry))?;
+        bytes.extend_from_slice(&first_bytes(&entry))?;
+        bytes.extend_from_slice(&last_bytes(&entry))?;
     }
     Ok(())
 }
 
-/// Checks a file into a place: as one of inspections if its first byte is 2, and as one of transfers otherwise.
-pub fn tell(place: &mut Checked, bytes: &[u8], day: u32) -> (u8, u16) {
-    let answer = match bytes {
-        [2, ..] => check(place, bytes, &Inspections, day),
-        _ => check(place, bytes, &Transfers, day),
-    };
-    match answer {
-        Ok(()) => (0, place.nodes()),
-        Err(fault) => (fault.number(), fault.entry()),
-    }
-}
-
 /// The bytes of a file.
-pub fn file_bytes(heap: Global, head: &Row, entries: &[Row]) -> Result<Vec<u8>, AllocError> {
+fn file_bytes(heap: Global, head: &Numbers, entries: &[Numbers]) -> Result<Vec<u8>, AllocError> {
     let mut bytes = Vec::new(heap);
-    bytes.extend_from_slice(&entry_bytes(head)[0..8])?;
+    bytes.extend_from_slice(&first_bytes(head))?;
     for entry in entries {
-        append(&mut bytes, entry)?;
+        append_entry(&mut bytes, entry)?;
     }
     if head[7] > 0 {
         bytes.resize(head[7] as usize, 0)?;
@@ -136,30 +123,75 @@ pub fn file_bytes(heap: Global, head: &Row, entries: &[Row]) -> Result<Vec<u8>, 
     Ok(bytes)
 }
 
-/// Runs a case.
-fn run_case(heap: Global, line: &[u8]) -> Result<(), Fail> {
-    let rows = rows(heap, line)?;
-    let parts = rows.as_slice();
+/// What reading tells of a file: a question and an entry, or zeros.
+fn tell_read(bytes: &[u8]) -> (u32, u32) {
+    let mut file = ReadFile::new();
+    match read(&mut file, bytes) {
+        Ok(()) => (0, 0),
+        Err(fault) => (u32::from(fault.number()), u32::from(fault.entry())),
+    }
+}
+
+/// Checks a file into a place, as one of inspections for kind 2 and of transfers for any other, and tells of it.
+fn tell(place: &mut Checked, bytes: &[u8], kind: u32, day: u32) -> (u32, u32) {
+    let answer = match kind {
+        2 => check(place, bytes, &Inspections, day),
+        _ => check(place, bytes, &Transfers, day),
+    };
+    match answer {
+        Ok(()) => (0, u32::from(place.nodes())),
+        Err(fault) => (u32::from(fault.number()), u32::from(fault.entry())),
+    }
+}
+
+/// What a place holds: kind, count of entries, first template, contract, signing day, and how many nodes it opens to.
+fn held(place: &Checked) -> [u32; 6] {
+    let file = place.file();
+    [
+        u32::from(file.kind),
+        u32::from(file.count),
+        u32::from(file.templates),
+        u32::from(file.contract),
+        place.day(),
+        u32::from(place.nodes()),
+    ]
+}
+
+/// Runs a case: checks the file into a place, which a refusal leaves as it was, and reads the file alone, which asks
+/// the questions 1 to 7.
+fn run_case(heap: Global, place: &mut Checked, line: &[u8]) -> Result<(), Fail> {
+    let parts = parts(heap, line)?;
+    let parts = parts.as_slice();
     let [_, told, head, entries @ ..] = parts else {
         return Err(Fail::new("a part is missing"));
     };
     let bytes = file_bytes(heap, head, entries)?;
-    let mut place = Checked::new();
-    let (question, entry) = tell(&mut place, &bytes, head[6]);
-    check_eq((u32::from(question), u32::from(entry)), (told[1], told[2]))
+    let [_, question, entry, ..] = *told;
+    let [_, kind, _, count, templates, contract, day, _, other] = *head;
+    let before = held(place);
+    let checked_with = if other == 0 { kind } else { other };
+    check_eq(tell(place, &bytes, checked_with, day), (question, entry))?;
+    let (read, after) = match question {
+        0 => ((0, 0), [kind, count, templates, contract, day, entry]),
+        1..=7 => ((question, entry), before),
+        _ => ((0, 0), before),
+    };
+    check_eq(tell_read(&bytes), read)?;
+    check_eq(held(place), after)
 }
 
-/// Runs cases.
-pub fn run(heap: Global, cases: &[u8]) -> Result<(), Fail> {
+/// Runs cases, one after the other into one place. A line may be empty; the last one ends like the others.
+fn run(heap: Global, cases: &[u8]) -> Result<(), Fail> {
+    let mut place = Checked::new();
     let mut start = 0;
     for (i, byte) in cases.iter().enumerate() {
         if *byte == b'\n' {
             if start < i {
                 let line = &cases[start..i];
-                run_case(heap, line).note(from_utf8(line).unwrap_or("?"))?;
+                run_case(heap, &mut place, line).note(from_utf8(line).unwrap_or("?"))?;
             }
             start = i + 1;
         }
     }
-    Ok(())
+    check_eq(start, cases.len())
 }

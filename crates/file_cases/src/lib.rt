@@ -1,25 +1,3 @@
-//! Contract files, and what check tells of them: tests alone.
-#[cfg(test)]
-mod admitted;
-#[cfg(test)]
-mod calls;
+//! Contract files, and what is told of them when they are read and checked: tests alone.
 #[cfg(test)]
 mod cases;
-#[cfg(test)]
-mod chains;
-#[cfg(test)]
-mod costly;
-#[cfg(test)]
-mod lengths;
-#[cfg(test)]
-mod order;
-#[cfg(test)]
-mod places;
-#[cfg(test)]
-mod pointers;
-#[cfg(test)]
-mod sizes;
-#[cfg(test)]
-mod values;
-#[cfg(test)]
-mod windows;

@@ -1,5 +1,5 @@
 //! Question 7: the days of steps, and calendar windows.
-use crate::cases::run;
+use super::run;
 use std::test::Fail;
 
 static CASES: &[u8] = b"\
@@ -27,10 +27,11 @@ a calendar window as left of a both in a body | 7 4 | 1 1 5 2 1 | 1; 8 1 3; 5 0 
 a calendar window as right of a both in a body | 7 4 | 1 1 5 2 1 | 1; 8 1 3; 5 0 5 4; 3 1 5 0 0 0 9; 1
 a calendar window as left of a then in a body | 7 4 | 1 1 5 2 1 | 1; 8 1 3; 6 0 4 5; 3 1 5 0 0 0 9; 1
 a calendar window as right of a then in a body | 7 4 | 1 1 5 2 1 | 1; 8 1 3; 6 0 5 4; 3 1 5 0 0 0 9; 1
-a calendar window in a second body, behind a tail, a choice and a tail | 7 7 | 1 1 8 2 1 | 1; 8 1 8 0 3; 8 2 4; 3 0 5 0 0 0 9; 4 0 8 6; 3 0 7 0 0 0 9; 3 1 8 0 0 0 9; 1
+a calendar window in a second body, behind a tail, a choice and a tail | 7 7 | 1 1 8 2 1 | \
+    1; 8 1 8 0 3; 8 2 4; 3 0 5 0 0 0 9; 4 0 8 6; 3 0 7 0 0 0 9; 3 1 8 0 0 0 9; 1
 a calendar window that the contract and a body share | 7 4 | 1 1 5 3 1 | 4 0 2 4; 7 1; 8 1 4; 3 1 5 0 0 0 9; 1
 a calendar window beside a call | 0 3 | 1 1 6 4 1 | 4 0 2 3; 3 1 6 0 0 0 9; 7 1; 8 1 5; 3 0 6 0 0 0 9; 1
-a calendar window with a call as tail, whose body the window's own tail leads to | 0 1 | 1 1 5 3 1 | 3 1 2 0 0 0 9; 7 1; 8 1 4; 3 0 5 0 0 0 9; 1
+a calendar window with a call as tail | 0 1 | 1 1 5 3 1 | 3 1 2 0 0 0 9; 7 1; 8 1 4; 3 0 5 0 0 0 9; 1
 ";
 
 #[test]

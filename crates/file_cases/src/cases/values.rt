@@ -1,5 +1,5 @@
 //! Question 3: tags, values from the list, and zeros elsewhere.
-use crate::cases::run;
+use super::run;
 use std::test::Fail;
 
 static CASES: &[u8] = b"\

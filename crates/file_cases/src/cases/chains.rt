@@ -1,5 +1,5 @@
 //! Question 5: the chains of templates, conditions and arguments.
-use crate::cases::run;
+use super::run;
 use std::test::Fail;
 
 static CASES: &[u8] = b"\
@@ -24,17 +24,23 @@ fields 1, 3 and 2 | 5 5 | 1 1 5 0 1 | 3 0 2 3 0 0 9; 1; 9 1 1 0 4 7; 9 3 1 0 5 7
 fields 1 and 1 in a chain that no step uses | 5 3 | 1 1 3 0 1 | 1; 9 1 1 0 3 7; 9 1 1 0 0 7
 two steps with one chain | 0 1 | 1 1 5 0 1 | 3 0 2 4 0 0 9; 3 0 3 4 0 0 9; 1; 9 1 1 0 5 7; 9 2 1 0 0 7
 a step that starts inside the chain of another | 0 1 | 1 1 5 0 1 | 3 0 2 4 0 0 9; 3 0 3 5 0 0 9; 1; 9 1 1 0 5 7; 9 2 1 0 0 7
-two steps whose chains 1, 3 and 2, 3 share their end | 0 1 | 1 1 6 0 1 | 3 0 2 4 0 0 9; 3 0 3 5 0 0 9; 1; 9 1 1 0 6 7; 9 2 1 0 6 7; 9 3 1 0 0 7
-two steps whose chains 1, 2 and 3, 2 share their end | 5 6 | 1 1 6 0 1 | 3 0 2 4 0 0 9; 3 0 3 5 0 0 9; 1; 9 1 1 0 6 7; 9 3 1 0 6 7; 9 2 1 0 0 7
-two steps whose chains 2, 2 and 1, 2 share their end | 5 6 | 1 1 6 0 1 | 3 0 2 4 0 0 9; 3 0 3 5 0 0 9; 1; 9 2 1 0 6 7; 9 1 1 0 6 7; 9 2 1 0 0 7
+two steps whose chains 1, 3 and 2, 3 share their end | 0 1 | 1 1 6 0 1 | \
+    3 0 2 4 0 0 9; 3 0 3 5 0 0 9; 1; 9 1 1 0 6 7; 9 2 1 0 6 7; 9 3 1 0 0 7
+two steps whose chains 1, 2 and 3, 2 share their end | 5 6 | 1 1 6 0 1 | \
+    3 0 2 4 0 0 9; 3 0 3 5 0 0 9; 1; 9 1 1 0 6 7; 9 3 1 0 6 7; 9 2 1 0 0 7
+two steps whose chains 2, 2 and 1, 2 share their end | 5 6 | 1 1 6 0 1 | \
+    3 0 2 4 0 0 9; 3 0 3 5 0 0 9; 1; 9 2 1 0 6 7; 9 1 1 0 6 7; 9 2 1 0 0 7
 
-slots 0 to 7 | 0 1 | 1 1 11 2 1 | 7 1 0 4; 8 1 3; 1; 10 0 1 0 5 9; 10 1 1 0 6 9; 10 2 1 0 7 9; 10 3 1 0 8 9; 10 4 1 0 9 9; 10 5 1 0 10 9; 10 6 2 0 11; 10 7 2 7
+slots 0 to 7 | 0 1 | 1 1 11 2 1 | \
+    7 1 0 4; 8 1 3; 1; 10 0 1 0 5 9; 10 1 1 0 6 9; 10 2 1 0 7 9; 10 3 1 0 8 9; 10 4 1 0 9 9; 10 5 1 0 10 9; 10 6 2 0 11; 10 7 2 7
 slots 0 and 0 | 5 5 | 1 1 5 2 1 | 7 1 0 4; 8 1 3; 1; 10 0 1 0 5 9; 10 0 1 0 0 9
 slots 3 and 2 | 5 5 | 1 1 5 2 1 | 7 1 0 4; 8 1 3; 1; 10 3 1 0 5 9; 10 2 1 0 0 9
 slots 0, 5 and 3 | 5 6 | 1 1 6 2 1 | 7 1 0 4; 8 1 3; 1; 10 0 1 0 5 9; 10 5 1 0 6 9; 10 3 1 0 0 9
 slots 7 and 7 in a chain that no call uses | 5 3 | 1 1 3 0 1 | 1; 10 7 1 0 3 9; 10 7 1 0 0 9
-two calls whose chains 0, 6 and 4, 6 share their end | 0 1 | 1 1 8 4 1 | 6 0 2 3; 7 1 0 6; 7 1 0 7; 8 1 5; 1; 10 0 1 0 8 9; 10 4 1 0 8 9; 10 6 1 0 0 9
-two calls whose chains 7, 6 and 4, 6 share their end | 5 8 | 1 1 8 4 1 | 6 0 2 3; 7 1 0 6; 7 1 0 7; 8 1 5; 1; 10 7 1 0 8 9; 10 4 1 0 8 9; 10 6 1 0 0 9
+two calls whose chains 0, 6 and 4, 6 share their end | 0 1 | 1 1 8 4 1 | \
+    6 0 2 3; 7 1 0 6; 7 1 0 7; 8 1 5; 1; 10 0 1 0 8 9; 10 4 1 0 8 9; 10 6 1 0 0 9
+two calls whose chains 7, 6 and 4, 6 share their end | 5 8 | 1 1 8 4 1 | \
+    6 0 2 3; 7 1 0 6; 7 1 0 7; 8 1 5; 1; 10 7 1 0 8 9; 10 4 1 0 8 9; 10 6 1 0 0 9
 ";
 
 #[test]

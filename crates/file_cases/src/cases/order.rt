@@ -1,5 +1,6 @@
-//! Which question and which entry are told where several fail.
-use crate::cases::run;
+//! Which question and which entry are told where several fail: the first question, even if its entry is the higher one,
+//! and of its entries the lowest.
+use super::run;
 use std::test::Fail;
 
 static CASES: &[u8] = b"\
@@ -18,7 +19,8 @@ two steps fail question 7 by their days | 7 1 | 1 1 3 0 1 | 3 0 2 0 0 9 8; 3 0 3
 a calendar window and then days fail question 7 | 7 3 | 1 1 5 2 1 | 1; 8 1 3; 3 1 4 0 0 0 9; 3 0 5 0 0 9 8; 1
 days and then a calendar window fail question 7 | 7 1 | 1 1 4 2 1 | 3 0 4 0 0 9 8; 8 1 3; 3 1 4 0 0 0 9; 1
 two conditions fail question 9 | 9 2 | 1 1 3 0 1 | 1; 9 4 5 0 0 1; 9 3 6 0 0 1 2
-the later in the chain, the lower of two chains, fails question 9 | 9 4 | 1 1 5 0 1 | 3 0 2 3 0 0 9; 1; 9 1 1 0 4 7; 9 4 5 0 0 1; 9 1 5 0 0 1
+the second of a chain, and then a condition of no step, fail question 9 | 9 4 | 1 1 5 0 1 | \
+    3 0 2 3 0 0 9; 1; 9 1 1 0 4 7; 9 4 5 0 0 1; 9 1 5 0 0 1
 
 questions 1 and 2 | 1 0 | 1 2 2 0 1 | 1
 questions 1 and 3 | 1 0 | 1 1 2 0 1 | 11
@@ -33,11 +35,11 @@ questions 6 and 7 | 6 2 | 1 1 2 0 1 | 3 0 2 0 0 9 8; 7 1
 questions 7 and 8 | 7 1 | 3 1 2 0 1 | 3 0 2 0 0 9 8; 1
 questions 7 and 9 | 7 2 | 1 1 5 0 1 | 3 0 2 3 0 0 9; 3 0 5 3 0 9 8; 9 4 5 0 0 1; 1; 1
 questions 8 and 9 | 8 0 | 3 1 2 0 1 | 1; 9 4 5 0 0 1
-questions 8 and 10 | 8 0 | 3 1 10 0 1 | 4 0 2 2; 4 0 3 3; 4 0 4 4; 4 0 5 5; 4 0 6 6; 4 0 7 7; 4 0 8 8; 4 0 9 9; 3 0 10 0 0 0 9; 1
+questions 8 and 10 | 8 0 | 3 1 10 0 1 | 4 0 > > 0 0 0 8; 3 0 10 0 0 0 9; 1
 questions 8 and 11 | 8 0 | 3 1 1 0 1 65536 | 1
-questions 9 and 10 | 9 11 | 1 1 11 0 1 | 4 0 2 2; 4 0 3 3; 4 0 4 4; 4 0 5 5; 4 0 6 6; 4 0 7 7; 4 0 8 8; 4 0 9 9; 3 0 10 0 0 0 9; 1; 9 4 5 0 0 1
+questions 9 and 10 | 9 11 | 1 1 11 0 1 | 4 0 > > 0 0 0 8; 3 0 10 0 0 0 9; 1; 9 4 5 0 0 1
 questions 9 and 11 | 9 2 | 1 1 2 0 1 65536 | 1; 9 4 5 0 0 1
-questions 10 and 11 | 10 0 | 1 1 10 0 1 65536 | 4 0 2 2; 4 0 3 3; 4 0 4 4; 4 0 5 5; 4 0 6 6; 4 0 7 7; 4 0 8 8; 4 0 9 9; 3 0 10 0 0 0 9; 1
+questions 10 and 11 | 10 0 | 1 1 10 0 1 65536 | 4 0 > > 0 0 0 8; 3 0 10 0 0 0 9; 1
 all questions but 1 | 2 0 | 3 2 3 0 1 65536 | 11; 3 0 2 0 0 9 8; 9 4 5 0 0 1
 ";
 

@@ -1,8 +1,17 @@
 //! Questions 8 and 9: the kind of a file, and the conditions that the kind admits.
-use crate::cases::run;
+//!
+//! Most of the conditions belong to no step, and are asked about all the same.
+use super::run;
 use std::test::Fail;
 
 static CASES: &[u8] = b"\
+kind 0 | 8 0 | 0 1 1 0 1 | 1
+kind 3 | 8 0 | 3 1 1 0 1 | 1
+kind 255 | 8 0 | 255 1 1 0 1 | 1
+a file of transfers, checked as one of inspections | 8 0 | 1 1 1 0 1 0 0 2 | 1
+a file of inspections, checked as one of transfers | 8 0 | 2 1 1 0 1 0 0 1 | 1
+a file of transfers with a condition of inspections, checked as one of inspections | 8 0 | 1 1 2 0 1 0 0 2 | 1; 9 4 5 0 0 1
+
 from, mode 1 | 0 1 | 1 1 2 0 1 | 1; 9 1 1 0 0 7
 from, mode 2 | 0 1 | 1 1 2 0 1 | 1; 9 1 2 0 0 7 8
 from, mode 2, nothing between | 9 2 | 1 1 2 0 1 | 1; 9 1 2 0 0 8 7
@@ -57,13 +66,11 @@ odometer, mode 4 | 0 1 | 2 1 2 0 1 | 1; 9 4 4 7
 odometer, mode 5 | 0 1 | 2 1 2 0 1 | 1; 9 4 5 7 0 1
 odometer, mode 6 | 9 2 | 2 1 2 0 1 | 1; 9 4 6 0 0 1 2
 
-kind 0 | 8 0 | 0 1 1 0 1 | 1
-kind 3 | 8 0 | 3 1 1 0 1 | 1
-kind 255 | 8 0 | 255 1 1 0 1 | 1
 a step on transfers with a mode of inspections | 9 4 | 1 1 4 0 1 | 3 0 2 3 0 0 9; 1; 9 1 1 0 4 7; 9 4 5 0 0 500
 a step on inspections with a mode of transfers | 9 4 | 2 1 4 0 1 | 3 0 2 3 0 0 9; 1; 9 1 1 0 4 7; 9 4 2 0 0 5 8
 a step on transfers, modes 1 to 4 | 0 1 | 1 1 6 0 1 | 3 0 2 3 0 0 9; 1; 9 1 4 0 4; 9 2 3 1 5; 9 3 1 0 6 7; 9 4 2 0 0 100 500
-two steps on inspections, modes 1, 4, 5 and 6 | 0 1 | 2 1 9 0 1 | 3 0 2 4 0 0 30; 3 0 3 6 0 300 365; 1; 9 1 1 0 5 7; 9 4 4; 9 1 1 0 7 7; 9 2 4 1 8; 9 3 6 0 9 1 2; 9 4 5 0 0 10000
+two steps on inspections, modes 1, 4, 5 and 6 | 0 1 | 2 1 9 0 1 | \
+    3 0 2 4 0 0 30; 3 0 3 6 0 300 365; 1; 9 1 1 0 5 7; 9 4 4; 9 1 1 0 7 7; 9 2 4 1 8; 9 3 6 0 9 1 2; 9 4 5 0 0 10000
 ";
 
 #[test]

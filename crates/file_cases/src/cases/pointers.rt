@@ -1,5 +1,7 @@
 //! Question 4: where pointers lead.
-use crate::cases::run;
+//!
+//! In the first group the entries are a clause, a condition, an argument, a template and its body.
+use super::run;
 use std::test::Fail;
 
 static CASES: &[u8] = b"\
@@ -56,30 +58,22 @@ both with a lower left | 4 2 | 1 1 3 0 1 | 1; 5 0 1 3; 1
 both without a left | 4 1 | 1 1 2 0 1 | 5 0 0 2; 1
 both with a left past the last entry | 4 1 | 1 1 2 0 1 | 5 0 3 2; 1
 both with a condition as left | 4 1 | 1 1 3 0 1 | 5 0 3 2; 1; 9 1 4
-both with an argument as left | 4 1 | 1 1 3 0 1 | 5 0 3 2; 1; 10 0 1
-both with a template as left | 4 1 | 1 1 4 3 1 | 5 0 3 2; 1; 8 1 4; 1
 both with itself as right | 4 1 | 1 1 2 0 1 | 5 0 2 1; 1
 both with a lower right | 4 2 | 1 1 3 0 1 | 1; 5 0 3 1; 1
 both without a right | 4 1 | 1 1 2 0 1 | 5 0 2 0; 1
 both with a right past the last entry | 4 1 | 1 1 2 0 1 | 5 0 2 3; 1
 both with a condition as right | 4 1 | 1 1 3 0 1 | 5 0 2 3; 1; 9 1 4
-both with an argument as right | 4 1 | 1 1 3 0 1 | 5 0 2 3; 1; 10 0 1
-both with a template as right | 4 1 | 1 1 4 3 1 | 5 0 2 3; 1; 8 1 4; 1
 both of two steps | 0 3 | 1 1 4 0 1 | 5 0 3 2; 3 0 4 0 0 0 9; 3 0 4 0 0 0 9; 1
 then with itself as left | 4 1 | 1 1 2 0 1 | 6 0 1 2; 1
 then with a lower left | 4 2 | 1 1 3 0 1 | 1; 6 0 1 3; 1
 then without a left | 4 1 | 1 1 2 0 1 | 6 0 0 2; 1
 then with a left past the last entry | 4 1 | 1 1 2 0 1 | 6 0 3 2; 1
 then with a condition as left | 4 1 | 1 1 3 0 1 | 6 0 3 2; 1; 9 1 4
-then with an argument as left | 4 1 | 1 1 3 0 1 | 6 0 3 2; 1; 10 0 1
-then with a template as left | 4 1 | 1 1 4 3 1 | 6 0 3 2; 1; 8 1 4; 1
 then with itself as right | 4 1 | 1 1 2 0 1 | 6 0 2 1; 1
 then with a lower right | 4 2 | 1 1 3 0 1 | 1; 6 0 3 1; 1
 then without a right | 4 1 | 1 1 2 0 1 | 6 0 2 0; 1
 then with a right past the last entry | 4 1 | 1 1 2 0 1 | 6 0 2 3; 1
 then with a condition as right | 4 1 | 1 1 3 0 1 | 6 0 2 3; 1; 9 1 4
-then with an argument as right | 4 1 | 1 1 3 0 1 | 6 0 2 3; 1; 10 0 1
-then with a template as right | 4 1 | 1 1 4 3 1 | 6 0 2 3; 1; 8 1 4; 1
 then of two steps | 0 2 | 1 1 4 0 1 | 6 0 3 2; 3 0 4 0 0 0 9; 3 0 4 0 0 0 9; 1
 
 call with a lower first argument | 4 2 | 1 1 4 3 2 | 10 0 1; 7 1 0 1; 8 1 4; 1
@@ -90,6 +84,7 @@ call with a template as first argument | 4 1 | 1 1 3 2 1 | 7 1 0 2; 8 1 3; 1
 call with a first argument past the last entry | 4 1 | 1 1 3 2 1 | 7 1 0 4; 8 1 3; 1
 call with an argument | 0 1 | 1 1 4 2 1 | 7 1 0 4; 8 1 3; 1; 10 0 1
 call without an argument | 0 1 | 1 1 3 2 1 | 7 1; 8 1 3; 1
+
 template with a lower body | 4 2 | 1 1 2 2 1 | 1; 8 1 1
 template with itself as body | 4 2 | 1 1 2 2 1 | 1; 8 1 2
 template without a body | 4 2 | 1 1 2 2 1 | 1; 8 1
@@ -104,6 +99,7 @@ template with a condition as next | 4 2 | 1 1 4 2 1 | 1; 8 1 3 0 4; 1; 9 1 4
 template with an argument as next | 4 2 | 1 1 4 2 1 | 1; 8 1 3 0 4; 1; 10 0 1
 template with a next past the last entry | 4 2 | 1 1 3 2 1 | 1; 8 1 3 0 4; 1
 template with a body and a next | 0 1 | 1 1 4 2 1 | 1; 8 1 4 0 3; 8 2 4; 1
+
 condition with a lower next | 4 3 | 1 1 3 0 1 | 1; 9 1 4; 9 2 4 0 2
 condition with itself as next | 4 2 | 1 1 2 0 1 | 1; 9 1 4 0 2
 condition with a clause as next | 4 2 | 1 1 3 0 1 | 1; 9 1 4 0 3; 1
@@ -111,6 +107,7 @@ condition with an argument as next | 4 2 | 1 1 3 0 1 | 1; 9 1 4 0 3; 10 0 1
 condition with a template as next | 4 2 | 1 1 4 3 1 | 1; 9 1 4 0 3; 8 1 4; 1
 condition with a next past the last entry | 4 2 | 1 1 2 0 1 | 1; 9 1 4 0 3
 condition with a next | 0 1 | 1 1 3 0 1 | 1; 9 1 4 0 3; 9 2 4
+
 argument with a lower next | 4 3 | 1 1 3 0 1 | 1; 10 0 1; 10 1 1 0 2
 argument with itself as next | 4 2 | 1 1 2 0 1 | 1; 10 0 1 0 2
 argument with a clause as next | 4 2 | 1 1 3 0 1 | 1; 10 0 1 0 3; 1

@@ -1,5 +1,5 @@
 //! Question 6: the templates that calls name.
-use crate::cases::run;
+use super::run;
 use std::test::Fail;
 
 static CASES: &[u8] = b"\
@@ -27,7 +27,8 @@ a call of its own template, behind a step and bare | 6 5 | 1 1 5 2 1 | 1; 8 1 3;
 a bare call of template 1 that the bodies 2 and 3 share | 0 1 | 1 1 7 2 1 | 7 3; 8 1 5 0 3; 8 2 6 0 4; 8 3 6; 3 0 7 0 0 0 9; 7 1; 1
 a bare call of template 2 that the bodies 2 and 3 share | 6 6 | 1 1 7 2 1 | 7 3; 8 1 5 0 3; 8 2 6 0 4; 8 3 6; 3 0 7 0 0 0 9; 7 2; 1
 a body that is the contract, with a call of its own template | 6 4 | 1 1 4 1 2 | 8 1 2; 4 0 3 4; 1; 7 1
-a call with arguments that its own body reads | 0 1 | 1 1 8 2 1 | 7 1 0 7; 8 1 3; 3 0 4 6 0 0 9; 7 1 0 5; 10 2 2 2; 9 4 3 2; 10 0 1 0 8 9; 10 2 1 0 0 500
+a call with arguments that its own body reads | 0 1 | 1 1 8 2 1 | \
+    7 1 0 7; 8 1 3; 3 0 4 6 0 0 9; 7 1 0 5; 10 2 2 2; 9 4 3 2; 10 0 1 0 8 9; 10 2 1 0 0 500
 ";
 
 #[test]
