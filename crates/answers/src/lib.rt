@@ -1,5 +1,7 @@
 //! What is proved of the questions themselves: each file, with a kind and a signing day, has one answer, which can be
 //! computed from its bytes.
+#![tactic(auto)]
+
 ghost use Rattle.answers.specs.Worked.{WorkedAnswers};
 ghost use Rattle.answers.specs.Unique.{OneAnswerChecking, ComputedAnswers};
 

@@ -1,3 +1,2 @@
-pub mod Facts
 pub mod Joining
 pub mod Sizes

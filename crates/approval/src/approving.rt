@@ -1,13 +1,17 @@
 //! Approving a file that has been read, for a kind and a signing day: the questions 8 to 11.
-ghost use Rattle.std.specs.Prelude.{◌≡◌, ℕ, ◌≤◌, Decides};
+ghost use Rattle.std.specs.Prelude.{◌≡◌, ℕ, ◌≤◌, IfOk, Decides};
 ghost use Rattle.contract_file.specs.declared.faults.Fault.TheVariants.{Inadmissible};
 ghost use Rattle.contract_file.specs.Asking.{Asked, Answers};
+ghost use Rattle.openings.specs.Shapes.{Known, openings_of};
 ghost use Rattle.answers.specs.Approving.{Admitted, Conditions, approving};
 
-use contract_file::{Fault, File};
+use contract_file::{Fault, File, PLACES, ReadFile};
 use entries::Entry;
 use kinds::{Kind, LAST_DAY};
-use openings::{MOST_NODES, Openings, shape_at};
+use openings::{Shape, openings, shape_at};
+
+/// The most nodes that a term has.
+pub const MOST_NODES: u16 = 256;
 
 /// Is this no condition, or one that the kind admits?
 fn admitted<K: Kind>(kind: &K, this: Entry) -> bool
@@ -33,20 +37,23 @@ fn ask_conditions<K: Kind>(file: &File, kind: &K) -> Result<(), Fault>
 }
 
 /// Is the file of this kind, with conditions that the kind admits, the contract small enough when it is opened,
-/// and the signing day early enough?
-pub fn approve<K: Kind>(openings: &Openings, kind: &K, day: u32) -> Result<(), Fault>
-    ensures { Answers (approving (K.Kind.numbered kind.now) K.Kind.meaning.admits day openings.now.read.file) 12 result }
+/// and the signing day early enough? If so, the answer is what each entry opens to.
+pub fn approve<K: Kind>(read: &ReadFile, kind: &K, day: u32) -> Result<[Shape; PLACES], Fault>
+    ensures answer { Answers (approving (K.Kind.numbered kind.now) K.Kind.meaning.admits day read.now.file) 12 result }
+    ensures value { IfOk result (λ s. s ≡ openings_of read.now.file) }
+    ensures known { IfOk result (λ s. Known read.now.file s) }
 {
-    let file = openings.file();
+    let file = read.file();
     if file.kind != kind.number() {
         return Err(Fault::Kind);
     }
     ask_conditions(file, kind)?;
-    if shape_at(openings.shapes(), file.contract as usize).size as usize > MOST_NODES {
+    let openings = openings(read);
+    if shape_at(&openings, file.contract as usize).size > MOST_NODES {
         return Err(Fault::Size);
     }
     if day > LAST_DAY {
         return Err(Fault::Day);
     }
-    Ok(())
+    Ok(openings)
 }

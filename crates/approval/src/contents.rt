@@ -1,48 +1,32 @@
 //! What a checked file holds.
 ghost use Rattle.std.specs.Prelude.{◌≡◌};
 ghost use Rattle.language.specs.Terms.{nodes};
-ghost use Rattle.horizon.specs.Foretelling.{Foretells};
 ghost use Rattle.answers.specs.Approving.{contract_opened};
 ghost use Rattle.approval.specs.Contents.{held, unsigned};
 
 use crate::checked::Checked;
 use contract_file::{File, ReadFile};
-use horizon::Horizon;
-use openings::Openings;
-use std::alloc::Global;
+use openings::{openings, shape_at};
 
 impl Checked {
-    /// A new place: a file of kind 1 with one entry, lost, signed on day 0. It takes no memory of the heap.
-    pub fn new(heap: Global) -> Checked
+    /// A new place: a file of kind 1 with one entry, lost, signed on day 0.
+    pub fn new() -> Checked
         ensures { held result ≡ unsigned }
     {
+        let read = ReadFile::new();
+        let openings = openings(&read);
         Checked {
-            openings: Openings::of(ReadFile::new()),
+            read,
             day: 0,
-            horizon: Horizon::never(heap),
+            openings,
         }
-    }
-
-    /// What each entry opens to, with the file.
-    pub fn openings(&self) -> &Openings
-        ensures { result.now ≡ self.now.openings }
-    {
-        &self.openings
-    }
-
-    /// When each entry's clause can end.
-    pub fn horizon(&self) -> &Horizon
-        ensures same { result.now ≡ self.now.horizon }
-        ensures foretold { Foretells self.now.openings.read.file result.now.spans result.now.rows.items }
-    {
-        &self.horizon
     }
 
     /// The file.
     pub fn file(&self) -> &File
-        ensures { result.now ≡ self.now.openings.read.file }
+        ensures { result.now ≡ self.now.read.file }
     {
-        self.openings.file()
+        self.read.file()
     }
 
     /// The signing day.
@@ -54,9 +38,9 @@ impl Checked {
 
     /// How many nodes the contract has when it is opened on the signing day.
     pub fn nodes(&self) -> u16
-        ensures { result ≡ nodes (contract_opened self.now.openings.read.file self.now.day) }
+        ensures { result ≡ nodes (contract_opened self.now.read.file self.now.day) }
     {
         let contract = self.file().contract;
-        self.openings.at(contract).size
+        shape_at(&self.openings, contract as usize).size
     }
 }

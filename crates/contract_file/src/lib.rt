@@ -1,4 +1,6 @@
 //! The contract file: how it is read, and the questions that are asked of its bytes alone.
+#![tactic(auto)]
+
 mod calls;
 mod chains;
 mod faults;

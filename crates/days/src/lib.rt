@@ -1,4 +1,6 @@
 //! Days that may be absent, and the window of a step: on which days a record may meet it.
+#![tactic(auto)]
+
 mod absent;
 mod windows;
 

@@ -1,4 +1,6 @@
 //! What is due: the open steps of a term.
+#![tactic(auto)]
+
 mod items;
 mod listing;
 

@@ -1,4 +1,6 @@
 //! The entries of a contract file, and how sixteen bytes are read as one.
+#![tactic(auto)]
+
 mod entries;
 mod layout;
 mod parts;

@@ -1,4 +1,6 @@
 //! Contract files, and what is told of them when they are read and checked: how they are written, and tests.
+#![tactic(auto)]
+
 #[cfg(test)]
 mod cases;
 mod writing;

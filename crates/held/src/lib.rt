@@ -1,4 +1,6 @@
 //! A contract as it is held: its checked file, and the term that is left of it.
+#![tactic(auto)]
+
 mod held;
 mod holding;
 

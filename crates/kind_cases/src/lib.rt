@@ -1,4 +1,6 @@
 //! Worked examples of the two kinds of record, run as tests.
+#![tactic(auto)]
+
 #[cfg(test)]
 mod admitted;
 #[cfg(test)]

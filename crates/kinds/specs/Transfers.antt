@@ -1,5 +1,5 @@
 -- What transfers mean: kind 1, with the fields from, to, resource and amount, none of them signed. Assumes nothing.
-use Rattle.std.specs.Prelude.{ℕ, Bool, true, false, ◌&&◌, nat_le}
+use Rattle.std.specs.Prelude.{Bool, true, false, ◌&&◌, nat_le}
 use Rattle.kinds.specs.declared.fields.Test.{Test}
 use Rattle.kinds.specs.declared.fields.Test.TheVariants.{Equals, Between, EqualsSlot, Put, AtLeastSlotPlus, Near}
 use Rattle.kinds.specs.declared.transfers.Transfer.{Transfer}

@@ -1,6 +1,8 @@
 //! What a contract means: clauses, terms, how a clause opens to a term, what a record leaves of a
 //! term, and when a term can end at the earliest. Here is nothing to run: each function stands for
 //! the theorem that is its contract, whatever the kind and the templates.
+#![tactic(auto)]
+
 ghost use Rattle.std.specs.Prelude.{List};
 ghost use Rattle.language.specs.Clauses.{Clause};
 ghost use Rattle.language.specs.Opening.{OpeningRules};

@@ -1,4 +1,6 @@
 //! Numbers as people write them on a line.
+#![tactic(auto)]
+
 ghost use Rattle.std.specs.Prelude.{◌≡◌};
 ghost use Rattle.lines.specs.Numbers.{number_of};
 

@@ -4,7 +4,7 @@ ghost use Rattle.contract_file.specs.Sound.{Sound};
 ghost use Rattle.openings.specs.Rounds.{of};
 ghost use Rattle.openings.specs.Shapes.{Known, openings_of};
 
-use crate::rounds::shapes_of;
+use crate::rounds::openings;
 use crate::shapes::{Shape, shape_at};
 use contract_file::{File, PLACES, ReadFile};
 
@@ -22,7 +22,7 @@ impl Openings {
         ensures same { result.read.file ≡ read.file }
         ensures value { result.shapes ≡ openings_of read.file }
     {
-        let shapes = shapes_of(&read);
+        let shapes = openings(&read);
         Openings { read, shapes }
     }
 

@@ -1,8 +1,10 @@
 //! What the entries of a contract file mean, and what each of them opens to.
+#![tactic(auto)]
+
 mod known;
 mod rounds;
 mod shapes;
 
 pub use known::Openings;
-pub use rounds::body;
+pub use rounds::{body, openings};
 pub use shapes::{MOST_NODES, Shape, shape_at};

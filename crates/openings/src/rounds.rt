@@ -1,7 +1,8 @@
 //! What each entry of a file opens to, by rounds: a round opens calls one deeper.
 ghost use Rattle.std.specs.Prelude.{◌≡◌};
 ghost use Rattle.contract_file.specs.Sound.{Sound};
-ghost use Rattle.openings.specs.Clauses.{body_of, body_at};
+ghost use Rattle.language.specs.Terms.{Guarded};
+ghost use Rattle.openings.specs.Clauses.{body_of, body_at, templates_of};
 ghost use Rattle.openings.specs.Shapes.{Known, openings_of};
 ghost use Rattle.openings.specs.Rounds.{entry_shape, Passed, Called};
 
@@ -95,9 +96,11 @@ fn rounds(file: &File) -> [Shape; PLACES]
 }
 
 /// What each entry of a file opens to, at its number: known once for each, whatever the row and the day.
-pub(crate) fn shapes_of(read: &ReadFile) -> [Shape; PLACES]
+/// Each bare call in a template of the file names a lower one, so that opening comes to an end.
+pub fn openings(read: &ReadFile) -> [Shape; PLACES]
     ensures value { result ≡ openings_of read.now.file }
     ensures known { Known read.now.file result }
+    ensures guarded { Guarded (templates_of read.now.file) }
 {
     rounds(read.file())
 }

@@ -1,4 +1,6 @@
 //! The earliest end of a term at a clock.
+#![tactic(auto)]
+
 mod looking;
 mod outlooks;
 

@@ -1,4 +1,6 @@
 //! Reports compared, word for word: two contracts, and what is said where bytes of them are changed.
+#![tactic(auto)]
+
 use std::alloc::{AllocError, Global};
 use vetting::report;
 
@@ -49,24 +51,12 @@ pub struct Case {
     pub text: &'static str,
 }
 
-pub const ON_DELIVERY: [Case; 17] = [
+pub const ON_DELIVERY: [Case; 15] = [
     Case {
         name: "unchanged",
         edits: [(NOWHERE, 0), (NOWHERE, 0)],
         day: 100,
-        text: "ok\nkind 1 (transfers), signing day 100, entries 10, templates 0, nodes on opening 1, contract at entry 1\n1 step, days 0 to 14 after its base, from = 2, to = 1, resource = 7, then 2\n2 step, days 0 to 8 after its base, from = 1, to = 2, resource = 1, amount = 500, then 3\n3 done\n4 condition, from = 2, next 5\n5 condition, to = 1, next 6\n6 condition, resource = 7, the last of its chain\n7 condition, from = 1, next 8\n8 condition, to = 2, next 9\n9 condition, resource = 1, next 10\n10 condition, amount = 500, the last of its chain\ndue: entry 1, from day 100 to day 114\nearliest end: day 100\n",
-    },
-    Case {
-        name: "a contract that is done",
-        edits: [(7, 3), (NOWHERE, 0)],
-        day: 100,
-        text: "ok\nkind 1 (transfers), signing day 100, entries 10, templates 0, nodes on opening 1, contract at entry 3\n1 step, days 0 to 14 after its base, from = 2, to = 1, resource = 7, then 2\n2 step, days 0 to 8 after its base, from = 1, to = 2, resource = 1, amount = 500, then 3\n3 done\n4 condition, from = 2, next 5\n5 condition, to = 1, next 6\n6 condition, resource = 7, the last of its chain\n7 condition, from = 1, next 8\n8 condition, to = 2, next 9\n9 condition, resource = 1, next 10\n10 condition, amount = 500, the last of its chain\ndue: nothing\nearliest end: day 100\n",
-    },
-    Case {
-        name: "a window that is past",
-        edits: [(9, 1), (NOWHERE, 0)],
-        day: 100,
-        text: "ok\nkind 1 (transfers), signing day 100, entries 10, templates 0, nodes on opening 1, contract at entry 1\n1 step, days 0 to 14 of the calendar, from = 2, to = 1, resource = 7, then 2\n2 step, days 0 to 8 after its base, from = 1, to = 2, resource = 1, amount = 500, then 3\n3 done\n4 condition, from = 2, next 5\n5 condition, to = 1, next 6\n6 condition, resource = 7, the last of its chain\n7 condition, from = 1, next 8\n8 condition, to = 2, next 9\n9 condition, resource = 1, next 10\n10 condition, amount = 500, the last of its chain\ndue: entry 1, from day 0 to day 14, which is past\nearliest end: none, no records can perform it\n",
+        text: "ok\nkind 1 (transfers), signing day 100, entries 10, templates 0, nodes on opening 1, contract at entry 1\n1 step, days 0 to 14 after its base, from = 2, to = 1, resource = 7, then 2\n2 step, days 0 to 8 after its base, from = 1, to = 2, resource = 1, amount = 500, then 3\n3 done\n4 condition, from = 2, next 5\n5 condition, to = 1, next 6\n6 condition, resource = 7, the last of its chain\n7 condition, from = 1, next 8\n8 condition, to = 2, next 9\n9 condition, resource = 1, next 10\n10 condition, amount = 500, the last of its chain\n",
     },
     Case {
         name: "eleven entries told",
@@ -159,7 +149,7 @@ pub const ON_MONTHLY: [Case; 3] = [
         name: "unchanged",
         edits: [(NOWHERE, 0), (NOWHERE, 0)],
         day: 0,
-        text: "ok\nkind 1 (transfers), signing day 0, entries 6, templates 1, nodes on opening 1, contract at entry 1\n1 call of template 1\n2 template 1, body 3, the last of its chain\n3 step, days 28 to 31 after its base, then 4\n4 choice, 5 or 6\n5 done\n6 call of template 1\ndue: entry 3, from day 28 to day 31\nearliest end: day 28\n",
+        text: "ok\nkind 1 (transfers), signing day 0, entries 6, templates 1, nodes on opening 1, contract at entry 1\n1 call of template 1\n2 template 1, body 3, the last of its chain\n3 step, days 28 to 31 after its base, then 4\n4 choice, 5 or 6\n5 done\n6 call of template 1\n",
     },
     Case {
         name: "template 2 alone",

@@ -1,4 +1,6 @@
 //! How long the clause of each entry lasts at the least.
+#![tactic(auto)]
+
 mod passes;
 mod rounds;
 mod spans;

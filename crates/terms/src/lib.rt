@@ -1,4 +1,6 @@
 //! Terms as tables of nodes, and how a clause opens into one.
+#![tactic(auto)]
+
 mod filling;
 mod nodes;
 mod opening;

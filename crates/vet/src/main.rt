@@ -1,4 +1,6 @@
 //! Vets contract.bin in the current folder: `vet [DAY]`.
+#![tactic(auto)]
+
 use anyhow::anyhow;
 use contract_file::FILE_BYTES;
 use std::fs::File;

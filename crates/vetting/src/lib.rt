@@ -1,5 +1,6 @@
 //! A contract file vetted for people: the answer of check on the first line, and then the file or the fault in words.
-mod prospects;
+#![tactic(auto)]
+
 mod reporting;
 mod verdict;
 

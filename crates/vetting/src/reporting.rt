@@ -2,16 +2,13 @@
 ghost use Rattle.std.specs.Prelude.{◌≡◌, IfOk, string_bytes};
 ghost use Rattle.vetting.specs.Told.{Told, Reported};
 
-use crate::prospects::prospects;
-use crate::verdict::{first_line, settled};
+use crate::verdict::first_line;
 use approval::{Checked, check};
-use contract_file::{Fault, File};
+use contract_file::File;
 use entries::Entry;
-use held::Held;
 use kinds::{Inspections, Kind, Transfers};
-use names::{Names, byte};
 use std::alloc::{AllocError, Global};
-use words::{EntryWords, Reason};
+use words::{EntryWords, Names, Reason, byte};
 
 /// How many templates a file has.
 fn templates(file: &File) -> u16 {
@@ -50,33 +47,6 @@ fn listing(heap: Global, names: Names, checked: &Checked) -> Result<String, Allo
     Ok(text)
 }
 
-/// An accepted file in words: what it holds, and what it comes to when it is opened on its signing day.
-fn accepted(heap: Global, names: Names, checked: Checked) -> Result<String, AllocError> {
-    let mut text = listing(heap, names, &checked)?;
-    let day = checked.day();
-    let held = Held::open(checked);
-    let prospects = prospects(heap, &held, day)?;
-    text.push_str(prospects.as_str())?;
-    Ok(text)
-}
-
-/// A refusal in words.
-fn refused(
-    heap: Global,
-    names: Names,
-    bytes: &[u8],
-    day: u32,
-    fault: Fault,
-) -> Result<String, AllocError> {
-    let reason = Reason {
-        names,
-        bytes,
-        day,
-        fault,
-    };
-    format!(in heap; "{reason}\n")
-}
-
 /// The report on a file for a kind.
 fn report_for<K: Kind>(
     heap: Global,
@@ -87,12 +57,20 @@ fn report_for<K: Kind>(
 ) -> Result<String, AllocError>
     ensures { IfOk result (λ s. Told (K.Kind.numbered kind.now) K.Kind.meaning.admits day bytes.now (string_bytes s)) }
 {
-    let mut place = Checked::new(heap);
-    let answer = settled(check(heap, &mut place, bytes, kind, day))?;
+    let mut place = Checked::new();
+    let answer = check(&mut place, bytes, kind, day);
     let mut text = first_line(heap, &answer)?;
     let words = match answer {
-        Ok(()) => accepted(heap, names, place)?,
-        Err(fault) => refused(heap, names, bytes, day, fault)?,
+        Ok(()) => listing(heap, names, &place)?,
+        Err(fault) => {
+            let reason = Reason {
+                names,
+                bytes,
+                day,
+                fault,
+            };
+            format!(in heap; "{reason}\n")?
+        }
     };
     text.push_str(words.as_str())?;
     Ok(text)

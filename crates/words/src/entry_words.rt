@@ -1,9 +1,9 @@
 //! An entry in words, with the chain that hangs on it.
+use crate::names::Names;
 use crate::test_words::{FillingWords, TestWords};
 use contract_file::File;
 use entries::Entry;
 use kinds::{FIELDS, SLOTS};
-use names::Names;
 use std::fmt;
 
 /// An entry of a file, by its number.

@@ -1,9 +1,11 @@
 //! Why a file is refused, in a sentence.
+ghost use Rattle.std.specs.Prelude.{◌≡◌, slice_index};
+
+use crate::names::Names;
 use crate::test_words::TestWords;
 use contract_file::{FILE_BYTES, Fault, HEAD_BYTES};
 use entries::{ENTRY_BYTES, Entry, decode};
 use kinds::LAST_DAY;
-use names::{Names, byte};
 use std::fmt;
 
 /// A fault, with what it was found in.
@@ -13,6 +15,13 @@ pub struct Reason<'a> {
     pub bytes: &'a [u8],
     pub day: u32,
     pub fault: Fault,
+}
+
+/// A byte of the file, and 0 past its end.
+pub fn byte(bytes: &[u8], at: usize) -> u8
+    ensures { result ≡ slice_index bytes.now at }
+{
+    if at < bytes.len() { bytes[at] } else { 0 }
 }
 
 /// The number in two bytes of the file.

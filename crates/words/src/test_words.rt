@@ -1,6 +1,6 @@
 //! What a condition asks and what an argument fills, in words.
+use crate::names::Names;
 use kinds::{Test, Value};
-use names::Names;
 use std::fmt;
 
 /// A test on a field, 1 to 4.

@@ -1,16 +1,16 @@
 use Rattle.std.proofs.Common.{◌≡◌, ap, ◌∙◌}
+use mathlib.Core.Logic.{∥∥₁_elim}
+use denote.Struct.Props.{≡_prop}
+use base.Stored.{coded_ℕ}
 use Rattle.openings.specs.declared.shapes.Shape.{Shape}
 use Rattle.contract_file.specs.declared.files.File.{File}
 use Rattle.openings.specs.Rounds.{of}
-use Rattle.openings.proofs.Facts.{known_openings}
 use Rattle.approval.proofs.Sizes.{size_told}
 use Rattle.approval.proofs.checked.Checked.nodes.Goals as goal
 
 pub returns : goal.returns
 returns c =
     let self = c.args.self.now in
-    let table = self.openings.shapes in
-    let file = self.openings.read.file in
-    ap (λ (s : Shape). s.size) c.at.ensures.same
-    ∙ ap (λ (f : File). (of table f.contract).size) c.file.ensures
-    ∙ size_told file self.day table (known_openings file table self.openings.known) self.small
+    let there = ap (λ (f : File). (of self.openings f.contract).size) c.file.ensures in
+    ap (λ (s : Shape). s.size) c.shape-at.ensures ∙ there
+    ∙ ∥∥₁_elim self.known (≡_prop coded_ℕ _ _) (λ known. size_told self.read.file self.day self.openings known self.small)

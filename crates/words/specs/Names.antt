@@ -1,7 +1,7 @@
 -- The words of a kind of record: its name, and those of its fields 1 to 4.
 use Rattle.std.specs.Prelude.{ℕ, cond, List, codes, ◌==◌}
-use Rattle.names.specs.declared.names.Names.{Names}
-use Rattle.names.specs.declared.names.Names.TheVariants.{Transfers, Inspections}
+use Rattle.words.specs.declared.names.Names.{Names}
+use Rattle.words.specs.declared.names.Names.TheVariants.{Transfers, Inspections}
 
 abbrev pub kind_name : Names → List ℕ
 kind_name Transfers = codes "transfers"

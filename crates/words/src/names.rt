@@ -1,6 +1,6 @@
 //! The words of a kind of record.
 ghost use Rattle.std.specs.Prelude.{◌≡◌};
-ghost use Rattle.names.specs.Names.{kind_name, field_name};
+ghost use Rattle.words.specs.Names.{kind_name, field_name};
 
 #[derive(Clone, Copy)]
 pub enum Names {
