@@ -10,8 +10,5 @@ returns-in-5 c = search (rules, take_all)
 pub returns-in-6 : goal.returns-in-6
 returns-in-6 c = search (rules, take_all)
 
-pub returns-in-9 : goal.returns-in-9
-returns-in-9 c = search (rules, take_all)
-
 pub returns-in-10 : goal.returns-in-10
 returns-in-10 c = search (rules, take_all)
