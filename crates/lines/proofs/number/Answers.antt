@@ -4,17 +4,17 @@ use Rattle.lines.specs.Numbers.{number_of}
 use Rattle.lines.proofs.Scans.{value_next, value_end}
 use Rattle.lines.proofs.number.Goals as goal
 
-pub returns-then-is-empty : goal.returns-then-is-empty
+pub returns-then-is_empty : goal.returns-then-is_empty
 unfolding number_of
-returns-then-is-empty c = grind (arith, nat_tests)
+returns-then-is_empty c = grind (arith, nat_tests)
 
-pub returns-in-default : goal.returns-in-default
+pub returns-in_default : goal.returns-in_default
 unfolding number_of
-returns-in-default c = grind (arith, nat_tests, value_next c.loop-b.value c.args.text.now c.loop-b.b-index)
+returns-in_default c = grind (arith, nat_tests, value_next c.loop-b.value c.args.text.now c.loop-b.b-index)
 
-pub returns-in-default·2 : goal.returns-in-default·2
+pub returns-in_default-2 : goal.returns-in_default-2
 unfolding number_of
-returns-in-default·2 c = grind (arith, nat_tests, value_next c.loop-b.value c.args.text.now c.loop-b.b-index)
+returns-in_default-2 c = grind (arith, nat_tests, value_next c.loop-b.value c.args.text.now c.loop-b.b-index)
 
 pub loop-b-preserved : goal.loop-b-preserved
 loop-b-preserved c = (

@@ -13,4 +13,4 @@ unfolding chain
 loop-k-init c = refl
 
 pub loop-k-preserved : goal.loop-k-preserved
-loop-k-preserved c = c.next-template-template.ensures ∙ ap next_template (c.at.ensures ∙ ap (at c.args.file.now.entries) c.loop-k.invariant) ∙ sym (chain_more c.args.file.now c.loop-k.-k (omega arith))
+loop-k-preserved c = c.next_template-template.ensures ∙ ap next_template (c.at.ensures ∙ ap (at c.args.file.now.entries) c.loop-k.invariant) ∙ sym (chain_more c.args.file.now c.loop-k._k (omega arith))

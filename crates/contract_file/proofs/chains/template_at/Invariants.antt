@@ -3,4 +3,4 @@ use Rattle.contract_file.specs.Chains.{chain}
 use Rattle.contract_file.proofs.chains.template_at.Given as goal
 
 abbrev pub invariant-loop-k : goal.invariant-loop-k
-invariant-loop-k l = l.template ≡ chain l.file l.-k
+invariant-loop-k l = l.template ≡ chain l.file l._k

@@ -12,16 +12,16 @@ use Rattle.contract_file.proofs.reading.table.Goals as goal
 pub loop-i-init : goal.loop-i-init
 loop-i-init c = (refl, (λ j low high _. absurd (omega arith)), (λ j low. all_lost 257 j ∙ sym (placed_none c.args.bytes.now j (omega arith))), (λ j _. all_lost 257 j), (λ j. rw (all_lost 257 j) tt))
 
-pub returns-in-err-entries : goal.returns-in-err-entries
-returns-in-err-entries c =
+pub returns-in_err-entries : goal.returns-in_err-entries
+returns-in_err-entries c =
     let i = c.loop-i.i in
     let b = c.args.bytes.now in
     let wide : (16 * i - 8 + 16) - (16 * i - 8) ≡ 16 = omega arith in
     let is : c.decode.result ≡ entry_of (bytes_of b i) = rw wide at c.decode.ensures.value in
-    let told = c.in-err-entries.ensures.value in
+    let told = c.in_err-entries.ensures.value in
     let none : c.decode.result ≡ None = grind arith in
-    let fault : c.in-err-entries.field-0.0 ≡ Unlisted i = grind arith in
-    let p = err_from_is_err_and c.from-residual.result c.from-residual.ensures.1 in
+    let fault : c.in_err-entries.field-0.0 ≡ Unlisted i = grind arith in
+    let p = err_from_is_err_and c.from_residual.result c.from_residual.ensures.1 in
     rw (p.1, p.2) (record {
       answer = (
         i,
@@ -39,10 +39,10 @@ pub loop-i-preserved : goal.loop-i-preserved
 loop-i-preserved c =
     let i = c.loop-i.i in
     let b = c.args.bytes.now in
-    let e = c.in-ok-entries.field-0 in
+    let e = c.in_ok-entries.field-0 in
     let wide : (16 * i - 8 + 16) - (16 * i - 8) ≡ 16 = omega arith in
     let is : c.decode.result ≡ entry_of (bytes_of b i) = rw wide at c.decode.ensures.value in
-    let told = c.in-ok-entries.ensures.value in
+    let told = c.in_ok-entries.ensures.value in
     let some : c.decode.result ≡ Some e = grind arith in
     let here : placed b i ≡ e = placed_entry b i e (omega arith) (omega (arith, c.requires.told)) (sym is ∙ some) in (
       simp length-set c.loop-i.invariant.0,

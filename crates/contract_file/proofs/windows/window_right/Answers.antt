@@ -9,8 +9,8 @@ returns-else-not-calendar c =
     let mark = get_or c.args.reached.now i 0 in
     rw c.in-Step.is (
       (λ e. record {
-        order = c.if-last-le-LAST-DAY.true.0;
-        limit = c.if-last-le-LAST-DAY.true.1;
+        order = c.if-last-le-LAST_DAY.true.0;
+        limit = c.if-last-le-LAST_DAY.true.1;
         apart = λ _ t r. omega (arith, c.requires.reached.least t i r, reached_small _ _ c.requires.parsed.values t i r, leb-true 256 mark e);
       }),
       (λ w. elim (cases_lt mark 256) [

@@ -5,7 +5,7 @@ use Rattle.terms.specs.declared.nodes.Node.TheVariants.{Lost}
 use Rattle.due.specs.Items.{is_leaf}
 use Rattle.due.proofs.Writing.{no_leaf}
 use Rattle.due.proofs.listing.leaf_count.Goals as goal
-use Rattle.due.proofs.listing.leaf_count.Goals.{in-Leaf, in-default}
+use Rattle.due.proofs.listing.leaf_count.Goals.{in-Leaf, in_default}
 
 pub overflow-add-count : goal.overflow-add-count
 overflow-add-count c =
@@ -17,7 +17,7 @@ loop-node-preserved c =
     let i = c.loop-node.node-index in
     elim c.match-node.branch [
       | in-Leaf w ↦ omega (arith, w.count-is, count_by_more_yes is_leaf c.args.nodes.now i Lost (omega arith) (ap is_leaf w.in-Leaf.is))
-      | in-default w ↦ omega (arith, w.count-is, count_by_more_no is_leaf c.args.nodes.now i Lost (omega arith) (no_leaf _ w.in-default.not-Leaf))
+      | in_default w ↦ omega (arith, w.count-is, count_by_more_no is_leaf c.args.nodes.now i Lost (omega arith) (no_leaf _ w.in_default.not-Leaf))
     ]
 
 pub returns : goal.returns

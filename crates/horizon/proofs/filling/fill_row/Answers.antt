@@ -19,8 +19,8 @@ pub loop-day-preserved : goal.loop-day-preserved
 loop-day-preserved c =
     let own = subst (λ (s : List Span). get_or s c.args.number Never ≡ ByDay c.args.row) c.requires.spans c.requires.here in
     one_cell_more c.args.file.now c.requires.sound c.loop-day.rows c.args.number c.args.row c.loop-day.day own (omega arith) (omega (arith, c.requires.long)) c.loop-day.invariant
-    c.at-entry.result c.entry-end-end.result c.unwrap-or.result c.at-entry.ensures
-    (c.entry-end-end.ensures ∙ ap (λ (s : List Span). entry_end s c.loop-day.rows c.loop-day.day c.at-entry.result) c.requires.spans) c.unwrap-or.ensures
+    c.at-entry.result c.entry_end-end.result c.unwrap_or.result c.at-entry.ensures
+    (c.entry_end-end.ensures ∙ ap (λ (s : List Span). entry_end s c.loop-day.rows c.loop-day.day c.at-entry.result) c.requires.spans) c.unwrap_or.ensures
 
 pub returns : goal.returns
 returns c =

@@ -4,7 +4,7 @@ use Rattle.spans.specs.declared.spans.Span.{Span}
 use Rattle.spans.specs.declared.spans.Span.TheVariants.{Never, After, ByDay}
 use Rattle.spans.specs.Rounds.{by_day}
 use Rattle.horizon.proofs.filling.row_count.Goals as goal
-use Rattle.horizon.proofs.filling.row_count.Goals.{in-ByDay, in-default}
+use Rattle.horizon.proofs.filling.row_count.Goals.{in-ByDay, in_default}
 
 rowless : (s : Span) → ((row : ℕ) → s ≡ ByDay row → ⊥) → by_day s ≡ false
 rowless Never h = refl
@@ -20,7 +20,7 @@ overflow-add-count c =
 pub loop-span-preserved : goal.loop-span-preserved
 loop-span-preserved c = elim c.match-span.branch [
   | in-ByDay w ↦ w.count-is ∙ ap (λ n. n + 1) c.loop-span.invariant ∙ sym (count_by_more_yes by_day c.args.spans.now c.loop-span.span-index Never (omega arith) (ap by_day w.in-ByDay.is))
-  | in-default w ↦ w.count-is ∙ c.loop-span.invariant ∙ sym (count_by_more_no by_day c.args.spans.now c.loop-span.span-index Never (omega arith) (rowless _ w.in-default.not-ByDay))
+  | in_default w ↦ w.count-is ∙ c.loop-span.invariant ∙ sym (count_by_more_no by_day c.args.spans.now c.loop-span.span-index Never (omega arith) (rowless _ w.in_default.not-ByDay))
 ]
 
 pub returns : goal.returns

@@ -8,8 +8,8 @@ loop-k-init c = called_none c.args.file.now c.args.shapes.now c.lost-lost.result
 
 pub loop-k-preserved : goal.loop-k-preserved
 loop-k-preserved c =
-    called_more c.args.file.now c.args.shapes.now c.loop-k.calls c.loop-k.k c.shape-at.result (omega arith) (omega arith) c.loop-k.invariant
-    (c.shape-at.ensures ∙ ap (of c.args.shapes.now) c.body.ensures)
+    called_more c.args.file.now c.args.shapes.now c.loop-k.calls c.loop-k.k c.shape_at.result (omega arith) (omega arith) c.loop-k.invariant
+    (c.shape_at.ensures ∙ ap (of c.args.shapes.now) c.body.ensures)
 
 pub returns : goal.returns
 returns c =

@@ -8,4 +8,4 @@ loop-at-init c = (refl, λ i h. all_lost 257 _ c.lost-lost.ensures i ∙ sym (pa
 
 pub loop-at-preserved : goal.loop-at-preserved
 loop-at-preserved c =
-    pass_more c.args.file.now (leading _ c.requires) c.args.calls.now c.loop-at.shapes _ c.loop-at.at c.at.result c.entry-shape.result (omega arith) (omega arith) c.loop-at.invariant c.at.ensures c.entry-shape.ensures
+    pass_more c.args.file.now (leading _ c.requires) c.args.calls.now c.loop-at.shapes _ c.loop-at.at c.at.result c.entry_shape.result (omega arith) (omega arith) c.loop-at.invariant c.at.ensures c.entry_shape.ensures

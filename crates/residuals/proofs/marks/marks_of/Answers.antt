@@ -7,7 +7,7 @@ use Rattle.residuals.proofs.marks.marks_of.Goals as goal
 pub loop-at-preserved : goal.loop-at-preserved
 loop-at-preserved g c =
     let by = mark_of g.K.Kind.meaning c.args.file.now c.args.r.now in
-    filled_more by Lost None 256 c.args.nodes.now c.loop-at.marks c.loop-at.at _ _ c.told-nodes c.loop-at-test.true c.loop-at.invariant c.mark-of.ensures
+    filled_more by Lost None 256 c.args.nodes.now c.loop-at.marks c.loop-at.at _ _ c.told-nodes c.loop-at-test.true c.loop-at.invariant c.mark_of.ensures
 
 pub returns : goal.returns
 returns g c =

@@ -8,4 +8,4 @@ loop-at-init c = (refl, λ i h. none_known 257 i ∙ sym (pass_none c.args.file.
 
 pub loop-at-preserved : goal.loop-at-preserved
 loop-at-preserved c =
-    pass_more c.args.file.now (leading _ c.requires) c.args.durations.now c.loop-at.lasts _ c.loop-at.at c.at.result c.entry-lasts.result (omega arith) (omega arith) c.loop-at.invariant c.at.ensures c.entry-lasts.ensures
+    pass_more c.args.file.now (leading _ c.requires) c.args.durations.now c.loop-at.lasts _ c.loop-at.at c.at.result c.entry_lasts.result (omega arith) (omega arith) c.loop-at.invariant c.at.ensures c.entry_lasts.ensures

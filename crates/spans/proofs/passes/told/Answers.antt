@@ -11,12 +11,12 @@ loop-at-init c =
 pub overflow-add-rows : goal.overflow-add-rows
 overflow-add-rows c = omega (arith, c.loop-at.invariant.1, few_rows c.args.file.now (257 - c.loop-at.at) c.loop-at.at)
 
-pub loop-at-preserved-then-is-dated : goal.loop-at-preserved-then-is-dated
-loop-at-preserved-then-is-dated c =
+pub loop-at-preserved-then-is_dated : goal.loop-at-preserved-then-is_dated
+loop-at-preserved-then-is_dated c =
     told_dated c.args.file.now (leading _ c.requires) c.args.lasts.now c.loop-at.spans _ c.loop-at.at c.loop-at.rows c.at.result (omega arith) (omega arith) c.loop-at.invariant.0 c.loop-at.invariant.1
-    c.at.ensures (sym c.is-dated.ensures ∙ c.if-is-dated.true)
+    c.at.ensures (sym c.is_dated.ensures ∙ c.if-is_dated.true)
 
 pub loop-at-preserved : goal.loop-at-preserved
 loop-at-preserved c =
     told_undated c.args.file.now (leading _ c.requires) c.args.lasts.now c.loop-at.spans _ c.loop-at.at c.loop-at.rows c.at.result c.lasting.result (omega arith) (omega arith) c.loop-at.invariant.0 c.loop-at.invariant.1
-    c.at.ensures (sym c.is-dated.ensures ∙ c.if-is-dated.false) c.lasting.ensures
+    c.at.ensures (sym c.is_dated.ensures ∙ c.if-is_dated.false) c.lasting.ensures

@@ -5,8 +5,8 @@ use Rattle.spans.proofs.rounds.round.Goals as goal
 
 pub loop-place-preserved : goal.loop-place-preserved
 loop-place-preserved c =
-    round_more c.args.file.now c.requires c.args.durations.now c.pass-lasts.result c.loop-place.next c.loop-place.place c.days-at.result (omega arith) c.pass-lasts.ensures c.loop-place.invariant
-    (c.days-at.ensures ∙ ap (of c.pass-lasts.result) c.body.ensures)
+    round_more c.args.file.now c.requires c.args.durations.now c.pass-lasts.result c.loop-place.next c.loop-place.place c.days_at.result (omega arith) c.pass-lasts.ensures c.loop-place.invariant
+    (c.days_at.ensures ∙ ap (of c.pass-lasts.result) c.body.ensures)
 
 pub returns : goal.returns
 returns c = round_is c.args.file.now c.args.durations.now c.loop-place.next c.loop-place.place (omega arith) c.loop-place.invariant

@@ -5,12 +5,12 @@ use Rattle.terms.proofs.Levels.{few_calls}
 use Rattle.terms.proofs.Planning.{sound_file}
 use Rattle.terms.proofs.opening.open_clause.Goals as goal
 
-pub open-from-requires : goal.open-from-requires
-open-from-requires c = few_calls c.args.openings.now.read.file (sound_file c.args.openings.now) c.args.clause
+pub open_from-requires : goal.open_from-requires
+open_from-requires c = few_calls c.args.openings.now.read.file (sound_file c.args.openings.now) c.args.clause
 
 -- what does not fit is not promised
-pub returns-else-at-out-le-MOST-NODES : goal.returns-else-at-out-le-MOST-NODES
-returns-else-at-out-le-MOST-NODES c long fits =
+pub returns-else-at-out-le-MOST_NODES : goal.returns-else-at-out-le-MOST_NODES
+returns-else-at-out-le-MOST_NODES c long fits =
     let o = c.args.openings.now in
     let told = ap (λ (s : Shape). s.size) (c.at.ensures.same ∙ known_openings _ _ o.known c.args.clause c.args.row.now c.args.base) in
-    absurd (omega (arith, told, fits, c.if-at-out-le-MOST-NODES))
+    absurd (omega (arith, told, fits, c.if-at-out-le-MOST_NODES))

@@ -2,5 +2,5 @@ use Rattle.std.proofs.Common.{arith}
 use Rattle.approval.proofs.Sizes.{fresh_small}
 use Rattle.approval.proofs.checked.Checked.new.Goals as goal
 
-pub invariant-of-result : goal.invariant-of-result
-invariant-of-result c = (omega arith, (fresh_small _ c.new-read.ensures, (∣ c.openings-openings.ensures.known ∣₁, tt)))
+pub invariant_of-result : goal.invariant_of-result
+invariant_of-result c = record { early = omega arith; small = fresh_small _ c.new-read.ensures; known = ∣ c.openings-openings.ensures.known ∣₁ }

@@ -12,5 +12,5 @@ pub returns : goal.returns
 returns c =
     let self = c.args.self.now in
     let there = ap (λ (f : File). (of self.openings f.contract).size) c.file.ensures in
-    ap (λ (s : Shape). s.size) c.shape-at.ensures ∙ there
+    ap (λ (s : Shape). s.size) c.shape_at.ensures ∙ there
     ∙ ∥∥₁_elim self.known (≡_prop coded_ℕ _ _) (λ known. size_told self.read.file self.day self.openings known self.small)

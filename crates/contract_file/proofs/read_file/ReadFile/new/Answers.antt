@@ -1,4 +1,4 @@
 use Rattle.contract_file.proofs.read_file.ReadFile.new.Goals as goal
 
-pub invariant-of-result : goal.invariant-of-result
-invariant-of-result c = (∣ c.new.ensures.sound ∣₁, tt)
+pub invariant_of-result : goal.invariant_of-result
+invariant_of-result c = record { sound = ∣ c.new.ensures.sound ∣₁ }

@@ -5,8 +5,8 @@ use Rattle.outlook.specs.Outlooks.{Foretold}
 use Rattle.held.proofs.Reading.{found}
 use Rattle.held.proofs.held.Held.end_day.Goals as goal
 
-pub end-day-requires : goal.end-day-requires
-end-day-requires c =
+pub end_day-requires : goal.end_day-requires
+end_day-requires c =
     let self = c.args.self.now in
     let same = sym c.openings.ensures in
     let tree = found self.checked.openings.read.file self.table self.whole in

@@ -4,17 +4,17 @@ use Rattle.held.proofs.Reading.{some_whole}
 use Rattle.held.proofs.Opening.{opened_whole}
 use Rattle.held.proofs.held.Held.open.Goals as goal
 
-pub invariant-of-result : goal.invariant-of-result
-invariant-of-result c =
+pub invariant_of-result : goal.invariant_of-result
+invariant_of-result c =
     let checked = c.args.checked in
     let file = checked.openings.read.file in
-    let whole = opened_whole _ _ _ _ _ _ _ c.openings.ensures c.day.ensures c.open-contract.ensures checked.small in
-    (some_whole file _ (contract_opened file checked.day) checked.small whole, tt)
+    let whole = opened_whole _ _ _ _ _ _ _ c.openings.ensures c.day.ensures c.open_contract.ensures checked.small in
+    record { whole = some_whole file _ (contract_opened file checked.day) checked.small whole }
 
 pub returns : goal.returns
 returns c =
     let checked = c.args.checked in
     record {
       same = refl;
-      holding = opened_whole _ _ _ _ _ _ _ c.openings.ensures c.day.ensures c.open-contract.ensures checked.small;
+      holding = opened_whole _ _ _ _ _ _ _ c.openings.ensures c.day.ensures c.open_contract.ensures checked.small;
     }

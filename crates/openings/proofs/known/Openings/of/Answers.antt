@@ -1,4 +1,4 @@
 use Rattle.openings.proofs.known.Openings.of.Goals as goal
 
-pub invariant-of-result : goal.invariant-of-result
-invariant-of-result c = (∣ c.shapes-of-shapes.ensures.known ∣₁, tt)
+pub invariant_of-result : goal.invariant_of-result
+invariant_of-result c = record { known = ∣ c.openings-shapes.ensures.known ∣₁ }

@@ -28,24 +28,24 @@ build-build-requires-in-Choice-2 t c =
     let w = in_table c.args.self.now c.args.weights.now _ p.parts.right in
     (omega arith, (w, p.parts.right))
 
-pub build-build-both-requires : goal.build-build-both-requires
-build-build-both-requires t c =
+pub build-build_both-requires : goal.build-build_both-requires
+build-build_both-requires t c =
     let p = rests c.args.self.now c.args.weights.now c.args.at c.requires.ready _ c.in-Both.ensures in
     let low = p.parts.low in
     let between = p.parts.between in
     let w = in_table c.args.self.now c.args.weights.now _ p.parts.right in
     (omega arith, ((between, w), (p.parts.left, p.parts.right)))
 
-pub build-build-both-requires-in-Either : goal.build-build-both-requires-in-Either
-build-build-both-requires-in-Either t c =
+pub build-build_both-requires-in-Either : goal.build-build_both-requires-in-Either
+build-build_both-requires-in-Either t c =
     let p = rests c.args.self.now c.args.weights.now c.args.at c.requires.ready _ c.in-Either.ensures in
     let low = p.parts.low in
     let between = p.parts.between in
     let w = in_table c.args.self.now c.args.weights.now _ p.parts.right in
     (omega arith, ((between, w), (p.parts.left, p.parts.right)))
 
-pub build-build-both-requires-in-Either-2 : goal.build-build-both-requires-in-Either-2
-build-build-both-requires-in-Either-2 t c =
+pub build-build_both-requires-in-Either-2 : goal.build-build_both-requires-in-Either-2
+build-build_both-requires-in-Either-2 t c =
     let p = rests c.args.self.now c.args.weights.now c.args.at c.requires.ready _ c.in-Either.ensures in
     let low = p.parts.low in
     let between = p.parts.between in
@@ -72,7 +72,7 @@ build-returns-in-Lost t c = λ x.
 pub build-returns-in-Open : goal.build-returns-in-Open
 build-returns-in-Open t c = λ x.
     let p = rests c.args.self.now c.args.weights.now c.args.at x _ c.in-Open.ensures in
-    retold (file_of c.args.self.now) _ _ _ _ p c.open-clause.ensures
+    retold (file_of c.args.self.now) _ _ _ _ p c.open_clause.ensures
 
 pub build-returns-in-Only : goal.build-returns-in-Only
 build-returns-in-Only t c = λ x.
@@ -88,12 +88,12 @@ build-returns-in-Choice t c = λ x.
 pub build-returns-in-Both : goal.build-returns-in-Both
 build-returns-in-Both t c = λ x.
     let p = rests c.args.self.now c.args.weights.now c.args.at x _ c.in-Both.ensures in
-    retold (file_of c.args.self.now) _ _ _ _ p.is (c.build-both.ensures p.parts.left p.parts.right)
+    retold (file_of c.args.self.now) _ _ _ _ p.is (c.build_both.ensures p.parts.left p.parts.right)
 
 pub build-returns-in-Either : goal.build-returns-in-Either
 build-returns-in-Either t c = λ x.
     either_written c.args.self.now c.args.weights.now c.args.at x _ _ _ _ _ _
-    (rests c.args.self.now c.args.weights.now c.args.at x _ c.in-Either.ensures) c.push-in-Either.ensures c.build-both-in-Either.ensures c.build-both-in-Either-2.ensures
+    (rests c.args.self.now c.args.weights.now c.args.at x _ c.in-Either.ensures) c.push-in-Either.ensures c.build_both-in-Either.ensures c.build_both-in-Either-2.ensures
 
 pub build-returns-in-Follow : goal.build-returns-in-Follow
 build-returns-in-Follow t c = λ x.
@@ -104,35 +104,35 @@ pub build-returns-in-Skip : goal.build-returns-in-Skip
 build-returns-in-Skip t c = λ x.
     let p = rests c.args.self.now c.args.weights.now c.args.at x _ c.in-Skip.ensures in
     retold (file_of c.args.self.now) _ _ _ _ p.is
-    (write_choice _ _ _ _ _ _ _ c.push-in-Skip.ensures (write_follow _ _ _ _ _ _ _ _ refl c.push-in-Skip-2.ensures (c.build-in-Skip.ensures p.part)) c.open-clause-in-Skip.ensures)
+    (write_choice _ _ _ _ _ _ _ c.push-in-Skip.ensures (write_follow _ _ _ _ _ _ _ _ refl c.push-in-Skip-2.ensures (c.build-in-Skip.ensures p.part)) c.open_clause-in-Skip.ensures)
 
-pub build-both-returns-in-Lost : goal.build-both-returns-in-Lost
-build-both-returns-in-Lost t c = λ x y.
-    let h = halved c.args.self.now c.args.weights.now c.args.left c.args.right x y _ _ _ c.in-Lost.ensures c.side-shape.ensures c.side-shape-2.ensures in
+pub build_both-returns-in-Lost : goal.build_both-returns-in-Lost
+build_both-returns-in-Lost t c = λ x y.
+    let h = halved c.args.self.now c.args.weights.now c.args.left c.args.right x y _ _ _ c.in-Lost.ensures c.side_shape.ensures c.side_shape-2.ensures in
     retold (file_of c.args.self.now) _ _ _ _ h (write_lost _ _ _ c.push.ensures)
 
-pub build-both-returns-in-Left : goal.build-both-returns-in-Left
-build-both-returns-in-Left t c = λ x y.
-    let h = halved c.args.self.now c.args.weights.now c.args.left c.args.right x y _ _ _ c.in-Left.ensures c.side-shape.ensures c.side-shape-2.ensures in
-    retold (file_of c.args.self.now) _ _ _ _ h (c.build-side.ensures x)
+pub build_both-returns-in-Left : goal.build_both-returns-in-Left
+build_both-returns-in-Left t c = λ x y.
+    let h = halved c.args.self.now c.args.weights.now c.args.left c.args.right x y _ _ _ c.in-Left.ensures c.side_shape.ensures c.side_shape-2.ensures in
+    retold (file_of c.args.self.now) _ _ _ _ h (c.build_side.ensures x)
 
-pub build-both-returns-in-Right : goal.build-both-returns-in-Right
-build-both-returns-in-Right t c = λ x y.
-    let h = halved c.args.self.now c.args.weights.now c.args.left c.args.right x y _ _ _ c.in-Right.ensures c.side-shape.ensures c.side-shape-2.ensures in
-    retold (file_of c.args.self.now) _ _ _ _ h (c.build-side-in-Right.ensures y)
+pub build_both-returns-in-Right : goal.build_both-returns-in-Right
+build_both-returns-in-Right t c = λ x y.
+    let h = halved c.args.self.now c.args.weights.now c.args.left c.args.right x y _ _ _ c.in-Right.ensures c.side_shape.ensures c.side_shape-2.ensures in
+    retold (file_of c.args.self.now) _ _ _ _ h (c.build_side-in-Right.ensures y)
 
-pub build-both-returns-in-Both : goal.build-both-returns-in-Both
-build-both-returns-in-Both t c = λ x y.
-    let h = halved c.args.self.now c.args.weights.now c.args.left c.args.right x y _ _ _ c.in-Both.ensures c.side-shape.ensures c.side-shape-2.ensures in
-    retold (file_of c.args.self.now) _ _ _ _ h (write_both _ _ _ _ _ (side_term c.args.left x) (side_term c.args.right y) c.push-in-Both.ensures (c.build-side-in-Both.ensures x) (c.build-side-in-Both-2.ensures y))
+pub build_both-returns-in-Both : goal.build_both-returns-in-Both
+build_both-returns-in-Both t c = λ x y.
+    let h = halved c.args.self.now c.args.weights.now c.args.left c.args.right x y _ _ _ c.in-Both.ensures c.side_shape.ensures c.side_shape-2.ensures in
+    retold (file_of c.args.self.now) _ _ _ _ h (write_both _ _ _ _ _ (side_term c.args.left x) (side_term c.args.right y) c.push-in-Both.ensures (c.build_side-in-Both.ensures x) (c.build_side-in-Both-2.ensures y))
 
-pub build-side-copy-requires : goal.build-side-copy-requires
-build-side-copy-requires t c =
+pub build_side-copy-requires : goal.build_side-copy-requires
+build_side-copy-requires t c =
     let k = whole c.args.self.now c.args.weights.now c.args.side c.in-Kept.at c.in-Kept.is c.requires.ready in
-    let s = ap (λ w. w.held.size) c.weight-at.ensures in
+    let s = ap (λ w. w.held.size) c.weight_at.ensures in
     (omega arith, omega (arith, k.few, k.ends))
 
-pub build-side-returns-in-Kept : goal.build-side-returns-in-Kept
-build-side-returns-in-Kept t c = λ x.
+pub build_side-returns-in-Kept : goal.build_side-returns-in-Kept
+build_side-returns-in-Kept t c = λ x.
     let k = whole c.args.self.now c.args.weights.now c.args.side c.in-Kept.at c.in-Kept.is x in
-    copy_writes (nodes_of c.args.self.now) c.in-Kept.at _ _ _ _ _ k.held (ap (λ w. c.in-Kept.at + w.held.size) c.weight-at.ensures ∙ k.ends) c.copy.ensures
+    copy_writes (nodes_of c.args.self.now) c.in-Kept.at _ _ _ _ _ k.held (ap (λ w. c.in-Kept.at + w.held.size) c.weight_at.ensures ∙ k.ends) c.copy.ensures

@@ -6,8 +6,8 @@ use Rattle.residuals.proofs.marked.Marked.+build_build_both_build_side.Given as 
 abbrev pub decreases-build : goal.decreases-build
 decreases-build l = 3 * (256 - l.at)
 
-abbrev pub decreases-build-both : goal.decreases-build-both
-decreases-build-both l = 3 * (256 - place l.left) + 2
+abbrev pub decreases-build_both : goal.decreases-build_both
+decreases-build_both l = 3 * (256 - place l.left) + 2
 
-abbrev pub decreases-build-side : goal.decreases-build-side
-decreases-build-side l = 3 * (256 - place l.side) + 1
+abbrev pub decreases-build_side : goal.decreases-build_side
+decreases-build_side l = 3 * (256 - place l.side) + 1

@@ -35,19 +35,19 @@ pub returns-in-Done : goal.returns-in-Done
 returns-in-Done t c = weigh_done c.args.self.now c.args.at _ _ (omega arith) c.in-Done.is c.done.ensures
 
 pub returns-in-Leaf : goal.returns-in-Leaf
-returns-in-Leaf t c = weigh_leaf c.args.self.now c.args.at _ _ (omega arith) _ _ _ c.in-Leaf.is (c.leaf.ensures ∙ ap leaf_weight c.shape-of.ensures)
+returns-in-Leaf t c = weigh_leaf c.args.self.now c.args.at _ _ (omega arith) _ _ _ c.in-Leaf.is (c.leaf.ensures ∙ ap leaf_weight c.shape_of.ensures)
 
 pub returns-in-Choice : goal.returns-in-Choice
 returns-in-Choice t c =
     weigh_choice c.args.self.now c.args.at _ _ _ _ _ _ c.weigh-right.ensures c.weigh-end.ensures (omega (arith, c.weigh-end.array_long)) c.in-Choice.is c.requires.standing
-    (c.choice.ensures ∙ ap₂ choice_weight c.weight-at.ensures c.weight-at-in-Choice.ensures)
+    (c.choice.ensures ∙ ap₂ choice_weight c.weight_at.ensures c.weight_at-in-Choice.ensures)
 
 pub returns-in-Both : goal.returns-in-Both
 returns-in-Both t c =
     weigh_both c.args.self.now c.args.at _ _ _ _ _ _ c.weigh-right-in-Both.ensures c.weigh-end-in-Both.ensures (omega (arith, c.weigh-end-in-Both.array_long)) c.in-Both.is c.requires.standing
-    (c.both.ensures ∙ ap₂ both_weight c.weight-at-in-Both.ensures c.weight-at-in-Both-2.ensures)
+    (c.both.ensures ∙ ap₂ both_weight c.weight_at-in-Both.ensures c.weight_at-in-Both-2.ensures)
 
 pub returns-in-Follow : goal.returns-in-Follow
 returns-in-Follow t c =
     weigh_follow c.args.self.now c.args.at _ _ _ _ c.weigh-end-in-Follow.ensures (omega (arith, c.weigh-end-in-Follow.array_long)) _ _ c.in-Follow.is
-    (c.follow.ensures ∙ ap₂ follow_weight c.weight-at-in-Follow.ensures c.at.ensures.same)
+    (c.follow.ensures ∙ ap₂ follow_weight c.weight_at-in-Follow.ensures c.at.ensures.same)
