@@ -1,7 +1,8 @@
 -- The rounds come to the durations.
-use Rattle.std.proofs.Common.{◌≡◌, ℕ, zero, suc, ◌+◌, ◌*◌, ◌<◌, Bool, true, false, ◌≢◌, List, [], ◌∷◌, map, length, get_or, set, replicate, Some, None, Decides, Option, sym, refl, ap, ◌∙◌, ap₂, inl, inr, arith, length-set, get_or-set_other, get_or-set_same, ext_get_or, MatchOption}
+use Rattle.std.proofs.Common.{eqb, ◌&&◌, ◌≡◌, ℕ, zero, suc, ◌+◌, ◌*◌, ◌<◌, Bool, true, false, ◌≢◌, List, [], ◌∷◌, map, length, get_or, set, replicate, Some, None, Decides, Option, sym, refl, ap, ◌∙◌, ap₂, inl, inr, arith, length-set, get_or-set_other, get_or-set_same, ext_get_or, MatchOption}
 use native.Mathlib.Decide.{dec_le}
-use Rattle.std.specs.Cmp.Lexicographic.{Matches, Same, Apart}
+use Rattle.std.specs.Cmp.Lexicographic.{pointwise}
+use Rattle.std.specs.Option.{option_eq}
 use Rattle.std.proofs.lemmas.Bool.{cond-true, cond-false, eq-eqb, ne_eqb, false≢true, and_from, and_left, and_right}
 use Rattle.language.specs.Clauses.{Clause, lost}
 use Rattle.language.specs.Ends.{Durations, ends, round, same_day, same, settle, durations}
@@ -82,35 +83,14 @@ module _ (f : File) where
   settles_last n D E e inv = sym (ap (λ k. settle (templates_of f) k D) e) ∙ inv
 
 -- what `==` says of two tables of durations
-abbrev pub Alike : Option ℕ → Option ℕ → Bool → Type 0
-Alike x y r = MatchOption x (MatchOption y (r ≡ true) (λ _. r ≡ false)) (λ a. MatchOption y (r ≡ false) (λ b. Decides r (a ≡ b)))
+same_day_is : (x y : Option ℕ) → option_eq eqb x y ≡ same_day x y
+same_day_is None None = refl
+same_day_is None (Some b) = refl
+same_day_is (Some a) None = refl
+same_day_is (Some a) (Some b) = refl
 
-same_day_is : (x y : Option ℕ) (r : Bool) → Alike x y r → r ≡ same_day x y
-same_day_is None None r h = h
-same_day_is None (Some b) r h = h
-same_day_is (Some a) None r h = h
-same_day_is (Some a) (Some b) true h = sym (eq-eqb a b (h.0 refl))
-same_day_is (Some a) (Some b) false h = sym (ne_eqb a b (λ e. false≢true (h.1 e)))
-
-all_same : (xs ys : Durations) → Same Alike xs ys → same xs ys ≡ true
-all_same [] [] h = refl
-all_same [] (y ∷ ys) h = absurd h
-all_same (x ∷ xs) [] h = absurd h
-all_same (x ∷ xs) (y ∷ ys) h = and_from (same_day x y) (same xs ys) (sym (same_day_is x y true h.0)) (all_same xs ys h.1)
-
-some_apart : (xs ys : Durations) → Apart Alike xs ys → same xs ys ≡ false
-some_apart [] ys h = absurd h
-some_apart (x ∷ xs) [] h = absurd h
-some_apart (x ∷ xs) (y ∷ ys) (inl h) = and_left (same_day x y) (same xs ys) (sym (same_day_is x y false h))
-some_apart (x ∷ xs) (y ∷ ys) (inr h) = and_right (same_day x y) (same xs ys) (some_apart xs ys h)
-
-other_length : (xs ys : Durations) → (length xs ≡ length ys → ⊥) → same xs ys ≡ false
-other_length [] [] h = absurd (h refl)
-other_length [] (y ∷ ys) h = refl
-other_length (x ∷ xs) [] h = refl
-other_length (x ∷ xs) (y ∷ ys) h = and_right (same_day x y) (same xs ys) (other_length xs ys (λ e. h (ap suc e)))
-
-pub same_is : (xs ys : Durations) (r : Bool) → Matches Alike xs ys r → same xs ys ≡ r
-same_is xs ys true h = all_same xs ys h.1
-same_is xs ys false (inl h) = other_length xs ys h
-same_is xs ys false (inr h) = some_apart xs ys h
+pub same_is : (xs ys : Durations) → pointwise (option_eq eqb) xs ys ≡ same xs ys
+same_is [] [] = refl
+same_is [] (y ∷ ys) = refl
+same_is (x ∷ xs) [] = refl
+same_is (x ∷ xs) (y ∷ ys) = ap₂ (λ a b. a && b) (same_day_is x y) (same_is xs ys)

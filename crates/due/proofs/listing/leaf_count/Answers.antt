@@ -7,8 +7,8 @@ use Rattle.due.proofs.Writing.{no_leaf}
 use Rattle.due.proofs.listing.leaf_count.Goals as goal
 use Rattle.due.proofs.listing.leaf_count.Goals.{in-Leaf, in_default}
 
-pub overflow-add-count : goal.overflow-add-count
-overflow-add-count c =
+pub overflow_add-count : goal.overflow_add-count
+overflow_add-count c =
     let i = c.loop-node.node-index in
     omega (arith, count_by-le-length is_leaf (take i c.args.nodes.now), length-take i c.args.nodes.now)
 

@@ -9,8 +9,8 @@ pub write_item-requires : goal.write_item-requires
 write_item-requires c =
     omega (arith, c.loop-node.invariant.0, room c.args.file.now c.args.nodes.now c.loop-node.node-index (omega arith) (ap is_leaf c.in-Leaf.is))
 
-pub overflow-add-place : goal.overflow-add-place
-overflow-add-place c =
+pub overflow_add-place : goal.overflow_add-place
+overflow_add-place c =
     omega (arith, c.loop-node.invariant.0, room c.args.file.now c.args.nodes.now c.loop-node.node-index (omega arith) (ap is_leaf c.in-Leaf.is))
 
 pub loop-node-preserved : goal.loop-node-preserved

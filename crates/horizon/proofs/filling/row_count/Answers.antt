@@ -11,8 +11,8 @@ rowless Never h = refl
 rowless (After days) h = refl
 rowless (ByDay row) h = absurd (h row refl)
 
-pub overflow-add-count : goal.overflow-add-count
-overflow-add-count c =
+pub overflow_add-count : goal.overflow_add-count
+overflow_add-count c =
     let few = count_by-le-length by_day c.args.spans.now in
     let front = sum_by-take-le (λ s. cond (by_day s) 1 0) c.args.spans.now c.loop-span.span-index in
     omega (arith, few, front, c.loop-span.invariant, c.told-spans)

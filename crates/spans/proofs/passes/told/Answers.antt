@@ -8,8 +8,8 @@ loop-at-init c =
     let long : length c.args.lasts.now ≡ 257 = search rules in
     (told_none c.args.file.now (leading _ c.requires) c.args.lasts.now long, rows_none c.args.file.now)
 
-pub overflow-add-rows : goal.overflow-add-rows
-overflow-add-rows c = omega (arith, c.loop-at.invariant.1, few_rows c.args.file.now (257 - c.loop-at.at) c.loop-at.at)
+pub overflow_add-rows : goal.overflow_add-rows
+overflow_add-rows c = omega (arith, c.loop-at.invariant.1, few_rows c.args.file.now (257 - c.loop-at.at) c.loop-at.at)
 
 pub loop-at-preserved-then-is_dated : goal.loop-at-preserved-then-is_dated
 loop-at-preserved-then-is_dated c =

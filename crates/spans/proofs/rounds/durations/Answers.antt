@@ -1,4 +1,4 @@
-use Rattle.std.proofs.Common.{◌-◌, ◌∙◌, arith}
+use Rattle.std.proofs.Common.{◌-◌, sym, ◌∙◌, arith}
 use Rattle.spans.proofs.Settling.{settles_first, settles_more, settled, settles_last, same_is}
 use Rattle.spans.proofs.rounds.durations.Goals as goal
 
@@ -8,12 +8,12 @@ loop-init c = settles_first c.args.file.now
 pub returns-then-eq : goal.returns-then-eq
 returns-then-eq c =
     settled c.args.file.now (1048577 - c.loop.counter) (1048576 - c.loop.counter) c.loop.durations c.round-next.result _ (omega arith) c.loop.invariant c.round-next.ensures
-    (same_is _ _ _ c.eq.ensures ∙ c.if-eq.true)
+    (sym (same_is c.loop.durations c.round-next.result) ∙ sym c.eq.ensures ∙ c.if-eq.true)
 
 pub loop-preserved : goal.loop-preserved
 loop-preserved c =
     settles_more c.args.file.now (1048577 - c.loop.counter) _ c.loop.durations c.round-next.result _ (omega arith) c.loop.invariant c.round-next.ensures
-    (same_is _ _ _ c.eq.ensures ∙ c.if-eq.false)
+    (sym (same_is c.loop.durations c.round-next.result) ∙ sym c.eq.ensures ∙ c.if-eq.false)
 
 pub returns : goal.returns
 returns c = settles_last c.args.file.now (1048577 - c.loop.counter) c.loop.durations _ (omega arith) c.loop.invariant

@@ -11,8 +11,8 @@ use Rattle.terms.proofs.Planning.{opens, plans, sound_file}
 use Rattle.terms.proofs.Writing.{retold, write_lost, write_done, write_leaf, write_choice, write_both, write_follow}
 use Rattle.terms.proofs.opening.+open_call_open_from.Goals as goal
 
-pub open_call_open_from-requires : goal.open_call_open_from-requires
-open_call_open_from-requires t c =
+pub open_call-open_from-requires : goal.open_call-open_from-requires
+open_call-open_from-requires t c =
     let f = c.args.openings.now.read.file in
     let k = c.args.template in
     let is : body (templates_of f) k ≡ clause_at f c.body-first.result = body_is f k c.requires.0 c.requires.1 ∙ sym (ap (clause_at f) (c.body-first.ensures ∙ ap (λ g. body_at g k) c.file.ensures.same)) in

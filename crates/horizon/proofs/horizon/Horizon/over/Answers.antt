@@ -9,8 +9,8 @@ use Rattle.spans.specs.Rounds.{by_day}
 use Rattle.horizon.proofs.Rows.{rows_are_counted}
 use Rattle.horizon.proofs.horizon.Horizon.over.Goals as goal
 
-pub overflow-mul-row_count : goal.overflow-mul-row_count
-overflow-mul-row_count c =
+pub overflow_mul-row_count : goal.overflow_mul-row_count
+overflow_mul-row_count c =
     let f = c.args.read.now.file in
     let rows : c.row_count.result ≡ rows_in f 257 0 = c.row_count.ensures ∙ ap (count_by by_day) c.entry_spans-spans.ensures ∙ rows_are_counted f in
     omega (arith, rows, few_rows f 257 0)
