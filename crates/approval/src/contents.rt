@@ -29,6 +29,13 @@ impl Checked {
         self.read.file()
     }
 
+    /// The read file, for which the checked one is spent.
+    pub fn into_read(self) -> ReadFile
+        ensures { result ≡ self.read }
+    {
+        self.read
+    }
+
     /// The signing day.
     pub fn day(&self) -> u32
         ensures { result ≡ self.now.day }

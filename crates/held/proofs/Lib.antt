@@ -1,3 +1,4 @@
+pub mod Facts
 pub mod Opening
 pub mod Reading
 pub mod Taking

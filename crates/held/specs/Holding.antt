@@ -7,7 +7,7 @@ use Rattle.held.specs.Whole.{Whole}
 
 -- The file that was checked.
 abbrev pub file_of : Held → File
-file_of h = h.checked.openings.read.file
+file_of h = h.foreseen.openings.read.file
 
 -- The term that is left of the contract, node for node.
 abbrev pub Holding : Held → Term → Type 0

@@ -9,8 +9,8 @@ ghost use Rattle.due.specs.Lists.{Listed};
 ghost use Rattle.held.specs.Holding.{file_of, Holding};
 ghost use Rattle.held.specs.Taking.{Taken};
 
+use crate::foreseen::Foreseen;
 use crate::held::Held;
-use approval::Checked;
 use due::{ShortList, due_list};
 use kinds::Kind;
 use outlook::end_day;
@@ -32,20 +32,20 @@ impl TooLarge {
 
 impl Held {
     /// Opens the contract of a checked file on its signing day, and spends the checked file.
-    pub fn open(checked: Checked) -> Held
-        ensures same { result.checked ≡ checked }
-        ensures holding { Holding result (contract_opened checked.openings.read.file checked.day) }
+    pub fn open(foreseen: Foreseen) -> Held
+        ensures same { result.foreseen ≡ foreseen }
+        ensures holding { Holding result (contract_opened foreseen.openings.read.file foreseen.day) }
     {
         let mut table = Table::new();
-        open_contract(checked.openings(), checked.day(), &mut table);
-        Held { checked, table }
+        open_contract(foreseen.openings(), foreseen.day(), &mut table);
+        Held { foreseen, table }
     }
 
     /// The checked file.
-    pub fn checked(&self) -> &Checked
-        ensures { result.now ≡ self.now.checked }
+    pub fn foreseen(&self) -> &Foreseen
+        ensures { result.now ≡ self.now.foreseen }
     {
-        &self.checked
+        &self.foreseen
     }
 
     /// How many nodes the term has.
@@ -59,7 +59,7 @@ impl Held {
     pub fn take<K: Kind>(&mut self, kind: &K, r: &K::Record) -> Result<(), TooLarge>
         ensures { (t : Term) → Holding self.old t → Taken self.old self.new (residual K.Kind.meaning (templates_of (file_of self.old)) t r.now) result }
     {
-        if hold(kind, self.checked.openings(), r, &mut self.table) {
+        if hold(kind, self.foreseen.openings(), r, &mut self.table) {
             Ok(())
         } else {
             Err(TooLarge)
@@ -70,7 +70,7 @@ impl Held {
     pub fn due_list(&self, list: &mut [u64]) -> Result<usize, ShortList>
         ensures { (t : Term) → Holding self.now t → Listed t list.old list.new result }
     {
-        due_list(self.checked.openings(), &self.table, list)
+        due_list(self.foreseen.openings(), &self.table, list)
     }
 
     /// The earliest day on which the contract can end, if no record comes before the clock; none if it cannot end.
@@ -78,8 +78,8 @@ impl Held {
         ensures { (t : Term) → Holding self.now t → result ≡ end_day (durations (templates_of (file_of self.now))) t clock }
     {
         end_day(
-            self.checked.openings(),
-            self.checked.horizon(),
+            self.foreseen.openings(),
+            self.foreseen.horizon(),
             &self.table,
             clock,
         )

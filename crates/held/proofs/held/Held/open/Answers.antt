@@ -6,15 +6,15 @@ use Rattle.held.proofs.held.Held.open.Goals as goal
 
 pub invariant_of-result : goal.invariant_of-result
 invariant_of-result c =
-    let checked = c.args.checked in
-    let file = checked.openings.read.file in
-    let whole = opened_whole _ _ _ _ _ _ _ c.openings.ensures c.day.ensures c.open_contract.ensures checked.small in
-    record { whole = some_whole file _ (contract_opened file checked.day) checked.small whole }
+    let foreseen = c.args.foreseen in
+    let file = foreseen.openings.read.file in
+    let whole = opened_whole _ _ _ _ _ _ _ c.openings.ensures c.day.ensures c.open_contract.ensures foreseen.small in
+    record { whole = some_whole file _ (contract_opened file foreseen.day) foreseen.small whole }
 
 pub returns : goal.returns
 returns c =
-    let checked = c.args.checked in
+    let foreseen = c.args.foreseen in
     record {
       same = refl;
-      holding = opened_whole _ _ _ _ _ _ _ c.openings.ensures c.day.ensures c.open_contract.ensures checked.small;
+      holding = opened_whole _ _ _ _ _ _ _ c.openings.ensures c.day.ensures c.open_contract.ensures foreseen.small;
     }
