@@ -27,10 +27,10 @@ mod values;
 mod windows;
 
 use crate::writing::{Numbers, file_bytes, parts};
-use approval::{Checked, Failure, check};
+use approval::{Checked, check};
 use contract_file::{ReadFile, read};
 use kinds::{Inspections, Kind, Transfers};
-use std::alloc::{AllocError, Global};
+use std::alloc::Global;
 use std::process::Abort;
 use std::str::from_utf8;
 use std::test::Fail;
@@ -45,21 +45,14 @@ fn tell_read(bytes: &[u8]) -> (u32, u32) {
 }
 
 /// Checks a file into a place, as one of inspections for kind 2 and of transfers for any other, and tells of it.
-fn tell(
-    heap: Global,
-    place: &mut Checked,
-    bytes: &[u8],
-    kind: u32,
-    day: u32,
-) -> Result<(u32, u32), AllocError> {
+fn tell(place: &mut Checked, bytes: &[u8], kind: u32, day: u32) -> (u32, u32) {
     let answer = match kind {
-        2 => check(heap, place, bytes, &Inspections, day),
-        _ => check(heap, place, bytes, &Transfers, day),
+        2 => check(place, bytes, &Inspections, day),
+        _ => check(place, bytes, &Transfers, day),
     };
     match answer {
-        Ok(()) => Ok((0, u32::from(place.nodes()))),
-        Err(Failure::Refused(fault)) => Ok((u32::from(fault.number()), u32::from(fault.entry()))),
-        Err(Failure::Memory) => Err(AllocError),
+        Ok(()) => (0, u32::from(place.nodes())),
+        Err(fault) => (u32::from(fault.number()), u32::from(fault.entry())),
     }
 }
 
@@ -79,6 +72,7 @@ fn held(place: &Checked) -> [u32; 6] {
 /// Runs a case: checks the file into a place, which a refusal leaves as it was, and reads the file alone, which asks
 /// the questions 1 to 7.
 fn run_case(rt: &impl Abort, heap: Global, place: &mut Checked, line: &[u8]) -> Result<(), Fail> {
+    let name = from_utf8(line).unwrap_or("?");
     let parts = parts(heap, line)?;
     let parts = parts.as_slice();
     let [_, told, head, entries @ ..] = parts else {
@@ -90,28 +84,28 @@ fn run_case(rt: &impl Abort, heap: Global, place: &mut Checked, line: &[u8]) -> 
     let before = held(place);
     let checked_with = if other == 0 { kind } else { other };
     assert_eq!(rt;
-        tell(heap, place, &bytes, checked_with, day)?,
-        (question, entry)
+        tell(place, &bytes, checked_with, day),
+        (question, entry),
+        "{name}"
     );
     let (read, after) = match question {
         0 => ((0, 0), [kind, count, templates, contract, day, entry]),
         1..=7 => ((question, entry), before),
         _ => ((0, 0), before),
     };
-    assert_eq!(rt; tell_read(&bytes), read);
-    assert_eq!(rt; held(place), after);
+    assert_eq!(rt; tell_read(&bytes), read, "{name}");
+    assert_eq!(rt; held(place), after, "{name}");
     Ok(())
 }
 
 /// Runs cases, one after the other into one place. A line may be empty; the last one ends like the others.
 fn run(rt: &impl Abort, heap: Global, cases: &[u8]) -> Result<(), Fail> {
-    let mut place = Checked::new(heap);
+    let mut place = Checked::new();
     let mut start = 0;
     for (i, byte) in cases.iter().enumerate() {
         if *byte == b'\n' {
             if start < i {
-                let line = &cases[start..i];
-                run_case(rt, heap, &mut place, line).note(from_utf8(line).unwrap_or("?"))?;
+                run_case(rt, heap, &mut place, &cases[start..i])?;
             }
             start = i + 1;
         }

@@ -4,7 +4,6 @@ use approval::Checked;
 use contract_file::File;
 use entries::Entry;
 use kinds::Test;
-use std::test::Fail;
 
 /// File A of docs/file-format.md, by its bytes.
 static FILE_A: &[u8] = b"\
@@ -55,20 +54,18 @@ fn is_file_a(file: &File) -> bool {
 
 #[test]
 fn new_place(rt: HostRuntime) {
-    let place = Checked::new(rt.alloc());
+    let place = Checked::new();
     assert_eq!(rt; matches!(place.file().at(1), Entry::Lost), true);
     assert_eq!(rt; held(&place), [1, 1, 0, 1, 0, 1]);
 }
 
 #[test]
-fn same_place(rt: HostRuntime) -> Result<(), Fail> {
-    let heap = rt.alloc();
-    let mut place = Checked::new(heap);
-    assert_eq!(rt; tell(heap, &mut place, MONTHLY, 1, 7)?, (0, 1));
-    assert_eq!(rt; tell(heap, &mut place, FILE_A, 1, 100)?, (0, 1));
-    assert_eq!(rt; tell(heap, &mut place, MONTHLY, 1, 65536)?, (11, 0));
-    assert_eq!(rt; tell(heap, &mut place, b"", 1, 7)?, (1, 0));
+fn same_place(rt: HostRuntime) {
+    let mut place = Checked::new();
+    assert_eq!(rt; tell(&mut place, MONTHLY, 1, 7), (0, 1));
+    assert_eq!(rt; tell(&mut place, FILE_A, 1, 100), (0, 1));
+    assert_eq!(rt; tell(&mut place, MONTHLY, 1, 65536), (11, 0));
+    assert_eq!(rt; tell(&mut place, b"", 1, 7), (1, 0));
     assert_eq!(rt; held(&place), [1, 10, 0, 1, 100, 1]);
     assert_eq!(rt; is_file_a(place.file()), true);
-    Ok(())
 }
