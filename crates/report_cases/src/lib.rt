@@ -1,8 +1,10 @@
 //! Reports compared, word for word: two contracts, and what is said where bytes of them are changed.
 #![tactic(auto)]
 
+use approval::{Checked, check};
+use kinds::Transfers;
 use std::alloc::{AllocError, Global};
-use vetting::report;
+use vetting::{prospects, report};
 
 /// The head of a file, and its entries: tag, k, and then a, b and next of two bytes, u and v of four.
 pub struct Contract {
@@ -165,11 +167,55 @@ pub const ON_MONTHLY: [Case; 3] = [
     },
 ];
 
+/// What contracts come to when they are opened: what is due, and the earliest end.
+pub const AHEAD_OF_DELIVERY: [Case; 3] = [
+    Case {
+        name: "unchanged",
+        edits: [(NOWHERE, 0), (NOWHERE, 0)],
+        day: 100,
+        text: "due: entry 1, from day 100 to day 114\nearliest end: day 100\n",
+    },
+    Case {
+        name: "a contract that is done",
+        edits: [(7, 3), (NOWHERE, 0)],
+        day: 100,
+        text: "due: nothing\nearliest end: day 100\n",
+    },
+    Case {
+        name: "a window that is past",
+        edits: [(9, 1), (NOWHERE, 0)],
+        day: 100,
+        text: "due: entry 1, from day 0 to day 14, which is past\nearliest end: none, no records can perform it\n",
+    },
+];
+
+pub const AHEAD_OF_MONTHLY: [Case; 1] = [Case {
+    name: "unchanged",
+    edits: [(NOWHERE, 0), (NOWHERE, 0)],
+    day: 0,
+    text: "due: entry 3, from day 28 to day 31\nearliest end: day 28\n",
+}];
+
 /// The bytes of a contract.
 pub fn bytes_of(heap: Global, contract: &Contract) -> Result<Vec<u8>, AllocError> {
     let mut bytes = contract.head.to_vec(heap)?;
     for entry in contract.entries {
         bytes.extend_from_slice(entry)?;
+    }
+    Ok(bytes)
+}
+
+/// The bytes of a contract with some of them changed.
+fn changed(
+    heap: Global,
+    contract: &Contract,
+    edits: &[(usize, u8); 2],
+) -> Result<Vec<u8>, AllocError> {
+    let mut bytes = bytes_of(heap, contract)?;
+    for (at, byte) in edits {
+        if *at < bytes.len() {
+            bytes[*at] = *byte;
+        }
     }
     Ok(bytes)
 }
@@ -181,13 +227,23 @@ pub fn edited(
     edits: &[(usize, u8); 2],
     day: u32,
 ) -> Result<String, AllocError> {
-    let mut bytes = bytes_of(heap, contract)?;
-    for (at, byte) in edits {
-        if *at < bytes.len() {
-            bytes[*at] = *byte;
-        }
-    }
+    let bytes = changed(heap, contract, edits)?;
     report(heap, &bytes, day)
+}
+
+/// What a contract of transfers with some bytes changed comes to; what a new place does, where it is refused.
+pub fn looked_ahead(
+    heap: Global,
+    contract: &Contract,
+    edits: &[(usize, u8); 2],
+    day: u32,
+) -> Result<String, AllocError> {
+    let bytes = changed(heap, contract, edits)?;
+    let mut place = Checked::new();
+    if check(&mut place, &bytes, &Transfers, day).is_err() {
+        place = Checked::new();
+    }
+    prospects(heap, place)
 }
 
 #[cfg(test)]
@@ -217,6 +273,29 @@ mod tests {
     #[test]
     fn monthly(rt: HostRuntime) -> Result<(), Fail> {
         compare(&rt, rt.alloc(), &MONTHLY, &ON_MONTHLY)
+    }
+
+    fn compare_ahead(
+        rt: &impl Abort,
+        heap: Global,
+        contract: &Contract,
+        cases: &[Case],
+    ) -> Result<(), Fail> {
+        for case in cases {
+            let text = looked_ahead(heap, contract, &case.edits, case.day)?;
+            assert_eq!(rt; text.as_str(), case.text, "{}", case.name);
+        }
+        Ok(())
+    }
+
+    #[test]
+    fn ahead_of_delivery(rt: HostRuntime) -> Result<(), Fail> {
+        compare_ahead(&rt, rt.alloc(), &DELIVERY, &AHEAD_OF_DELIVERY)
+    }
+
+    #[test]
+    fn ahead_of_monthly(rt: HostRuntime) -> Result<(), Fail> {
+        compare_ahead(&rt, rt.alloc(), &MONTHLY, &AHEAD_OF_MONTHLY)
     }
 
     #[test]

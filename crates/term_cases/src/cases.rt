@@ -25,9 +25,9 @@ mod sizes;
 mod stages;
 mod transfers;
 
-use approval::{Checked, Failure, check};
+use approval::{Checked, check};
 use file_cases::{Numbers, file_bytes, parts};
-use held::{Held, TooLarge};
+use held::{Foreseen, Held, TooLarge};
 use kinds::{Inspection, Inspections, Kind, LAST_DAY, Transfer, Transfers};
 use std::alloc::Global;
 use std::process::Abort;
@@ -43,22 +43,21 @@ const PLACES: usize = 800;
 /// Opens a file for the kind and the signing day of its head.
 fn opened(heap: Global, head: &Numbers, entries: &[Numbers]) -> Result<Held, Fail> {
     let bytes = file_bytes(heap, head, entries)?;
-    let mut place = Checked::new(heap);
+    let mut place = Checked::new();
     let answer = match head[1] {
-        2 => check(heap, &mut place, &bytes, &Inspections, head[6]),
-        _ => check(heap, &mut place, &bytes, &Transfers, head[6]),
+        2 => check(&mut place, &bytes, &Inspections, head[6]),
+        _ => check(&mut place, &bytes, &Transfers, head[6]),
     };
     match answer {
-        Ok(()) => Ok(Held::open(place)),
-        Err(Failure::Refused(_)) => Err(Fail::new("the file is refused")),
-        Err(Failure::Memory) => Err(Fail::new("there is no memory")),
+        Ok(()) => Ok(Held::open(Foreseen::over(heap, place)?)),
+        Err(_) => Err(Fail::new("the file is refused")),
     }
 }
 
 /// Sends a record: an inspection for kind 2, and a transfer for any other.
 fn sent(held: &mut Held, numbers: &Numbers) -> Result<(), TooLarge> {
     let [_, _, one, two, three, four, day, ..] = *numbers;
-    match held.checked().file().kind {
+    match held.foreseen().file().kind {
         2 => {
             let inspection = Inspection {
                 vehicle: one,
@@ -83,14 +82,14 @@ fn sent(held: &mut Held, numbers: &Numbers) -> Result<(), TooLarge> {
 }
 
 /// Nothing was written to these places.
-fn untouched(rt: &impl Abort, places: &[u64]) {
+fn untouched(rt: &impl Abort, name: &str, places: &[u64]) {
     for place in places {
-        assert_eq!(rt; *place, UNTOUCHED);
+        assert_eq!(rt; *place, UNTOUCHED, "{name}");
     }
 }
 
 /// Compares the front of a list with items, behind which nothing is touched.
-fn compare_items(rt: &impl Abort, list: &[u64], items: &[Numbers]) -> Result<(), Fail> {
+fn compare_items(rt: &impl Abort, name: &str, list: &[u64], items: &[Numbers]) -> Result<(), Fail> {
     let mut rest = list;
     for item in items {
         let [entry, first, last, behind @ ..] = rest else {
@@ -98,15 +97,21 @@ fn compare_items(rt: &impl Abort, list: &[u64], items: &[Numbers]) -> Result<(),
         };
         let [_, own, from, to, ..] = *item;
         let expected = (u64::from(own), u64::from(from), u64::from(to));
-        assert_eq!(rt; (*entry, *first, *last), expected);
+        assert_eq!(rt; (*entry, *first, *last), expected, "{name}");
         rest = behind;
     }
-    untouched(rt, rest);
+    untouched(rt, name, rest);
     Ok(())
 }
 
 /// A list that lacks a place is refused, and nothing is written to it.
-fn compare_short(rt: &impl Abort, heap: Global, held: &Held, leaves: usize) -> Result<(), Fail> {
+fn compare_short(
+    rt: &impl Abort,
+    name: &str,
+    heap: Global,
+    held: &Held,
+    leaves: usize,
+) -> Result<(), Fail> {
     let Some(places) = leaves.saturating_mul(3).checked_sub(1) else {
         return Ok(());
     };
@@ -115,23 +120,30 @@ fn compare_short(rt: &impl Abort, heap: Global, held: &Held, leaves: usize) -> R
         Ok(_) => 0,
         Err(refused) => refused.number(),
     };
-    assert_eq!(rt; number, 18);
-    untouched(rt, &list);
+    assert_eq!(rt; number, 18, "{name}");
+    untouched(rt, name, &list);
     Ok(())
 }
 
 /// Compares what is due with the items of a case.
-fn compare_due(rt: &impl Abort, heap: Global, held: &Held, items: &[Numbers]) -> Result<(), Fail> {
+fn compare_due(
+    rt: &impl Abort,
+    name: &str,
+    heap: Global,
+    held: &Held,
+    items: &[Numbers],
+) -> Result<(), Fail> {
     let mut list = [UNTOUCHED; PLACES];
     let leaves = held.due_list(&mut list).unwrap_or(PLACES);
-    assert_eq!(rt; leaves, items.len());
-    compare_items(rt, &list, items)?;
-    compare_short(rt, heap, held, leaves)
+    assert_eq!(rt; leaves, items.len(), "{name}");
+    compare_items(rt, name, &list, items)?;
+    compare_short(rt, name, heap, held, leaves)
 }
 
 /// Compares a held contract with what a case tells.
 fn compare(
     rt: &impl Abort,
+    name: &str,
     heap: Global,
     held: &Held,
     clock: u32,
@@ -143,20 +155,21 @@ fn compare(
     } else {
         Some(told[2])
     };
-    assert_eq!(rt; u32::from(held.nodes()), told[1]);
-    assert_eq!(rt; held.end_day(clock), end);
-    compare_due(rt, heap, held, items)
+    assert_eq!(rt; u32::from(held.nodes()), told[1], "{name}");
+    assert_eq!(rt; held.end_day(clock), end, "{name}");
+    compare_due(rt, name, heap, held, items)
 }
 
 /// Runs a line of what happens.
 fn run_line(rt: &impl Abort, heap: Global, held: &mut Held, line: &[u8]) -> Result<(), Fail> {
+    let name = from_utf8(line).unwrap_or("?");
     let parts = parts(heap, line)?;
     let parts = parts.as_slice();
     let [happens, told, items @ ..] = parts else {
         return Err(Fail::new("a part is missing"));
     };
     let clock = match line {
-        [32, b'o', ..] => held.checked().day(),
+        [32, b'o', ..] => held.foreseen().day(),
         [32, b'c', ..] => happens[2],
         _ => {
             let number = match sent(held, happens) {
@@ -164,14 +177,14 @@ fn run_line(rt: &impl Abort, heap: Global, held: &mut Held, line: &[u8]) -> Resu
                 Err(refused) => refused.number(),
             };
             if told[1] == 0 {
-                assert_eq!(rt; u32::from(number), told[2]);
+                assert_eq!(rt; u32::from(number), told[2], "{name}");
                 return Ok(());
             }
-            assert_eq!(rt; number, 0);
+            assert_eq!(rt; number, 0, "{name}");
             happens[6]
         }
     };
-    compare(rt, heap, held, clock, told, items)
+    compare(rt, name, heap, held, clock, told, items)
 }
 
 /// Runs one line: of a file, which is opened in place of the one before, or of what happens.
@@ -190,13 +203,12 @@ fn run_either(rt: &impl Abort, heap: Global, held: &mut Held, line: &[u8]) -> Re
 
 /// Runs cases, one after the other. A line may be empty; the last one ends like the others.
 fn run(rt: &impl Abort, heap: Global, cases: &[u8]) -> Result<(), Fail> {
-    let mut held = Held::open(Checked::new(heap));
+    let mut held = Held::open(Foreseen::over(heap, Checked::new())?);
     let mut start = 0;
     for (i, byte) in cases.iter().enumerate() {
         if *byte == b'\n' {
             if start < i {
-                let line = &cases[start..i];
-                run_either(rt, heap, &mut held, line).note(from_utf8(line).unwrap_or("?"))?;
+                run_either(rt, heap, &mut held, &cases[start..i])?;
             }
             start = i + 1;
         }

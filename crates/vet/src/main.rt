@@ -1,10 +1,11 @@
 //! Vets contract.bin in the current folder: `vet [DAY]`.
 #![tactic(auto)]
 
-use anyhow::anyhow;
+use anyhow::{Context, anyhow};
 use contract_file::FILE_BYTES;
 use std::fs::File;
 use std::io::{ErrorKind, Read};
+use std::process::ExitCode;
 use std::{env, io};
 
 /// The contract file of the current folder.
@@ -14,7 +15,7 @@ const CONTRACT: &str = "contract.bin";
 fn signing_day(rt: &HostRuntime) -> anyhow::Result<u32> {
     let mut args = env::args(rt)?.skip(1);
     let day = match args.next() {
-        Some(text) => lines::number(text.as_bytes()).ok_or(
+        Some(text) => lines::number(text.as_bytes()).context(
             "DAY has to be a number of 1 to 10 digits that fits 32 bits, as in: vet 100",
         )?,
         None => 0,
@@ -59,10 +60,12 @@ fn run(rt: &HostRuntime) -> anyhow::Result<()> {
     Ok(())
 }
 
-fn main(rt: HostRuntime) -> anyhow::Result<()> {
-    let done = run(&rt);
-    if let Err(e) = &done {
-        eprintln!(rt; "vet: {e}")?;
+fn main(rt: HostRuntime) -> anyhow::Result<ExitCode> {
+    match run(&rt) {
+        Ok(()) => Ok(ExitCode::SUCCESS),
+        Err(e) => {
+            eprintln!(rt; "vet: {e}")?;
+            Ok(ExitCode::FAILURE)
+        }
     }
-    done
 }
