@@ -1,11 +1,10 @@
 -- Reading's questions with approving's behind them: the answer to the first list, and then to the second, is that to both.
-use Rattle.std.proofs.Common.{◌≡◌, ℕ, ◌+◌, ◌-◌, ◌<◌, ◌≤◌, Bool, ◌⊎◌, List, [], ◌∷◌, ◌++◌, sym, refl, ◌∙◌, subst, inl, inr, arith}
+use Rattle.std.proofs.Common.{◌≡◌, ℕ, ◌+◌, ◌-◌, ◌<◌, ◌≤◌, Bool, List, [], ◌∷◌, sym, ◌∙◌, subst, inl, inr, arith}
 use Rattle.std.proofs.lemmas.List.{get_or_append_left, get_or-append-add}
 use Rattle.std.proofs.lemmas.Bool.{cases_lt}
 use Rattle.kinds.specs.declared.fields.Test.{Test}
 use Rattle.contract_file.specs.declared.faults.Fault.{Fault}
 use Rattle.contract_file.specs.declared.faults.Fault.TheVariants.{Length, Version, Unlisted, Pointer, Chain, Call, Window, Kind, Inadmissible, Size, Day}
-use Rattle.contract_file.specs.declared.files.File.{File}
 use Rattle.contract_file.specs.Faults.{fault_number, fault_entry}
 use Rattle.contract_file.specs.Asking.{Question, unasked, nth, Passed, Lowest, Refused}
 use Rattle.contract_file.specs.Files.{decoded}

@@ -1,11 +1,10 @@
 -- The size of the opened contract, by the table of what each entry opens to.
-use Rattle.std.proofs.Common.{◌≡◌, ℕ, ◌≤◌, min, List, sym, refl, ap, ◌∙◌, subst, arith}
+use Rattle.std.proofs.Common.{◌≡◌, ℕ, ◌≤◌, List, refl, ap, ◌∙◌, arith}
 use Rattle.kinds.specs.Rows.{zeros}
 use Rattle.language.specs.Clauses.{lost}
-use Rattle.language.specs.Terms.{Term, Lost, nodes, open_with, opened}
+use Rattle.language.specs.Terms.{nodes, open_with, opened}
 use Rattle.contract_file.specs.declared.files.File.{File}
 use Rattle.contract_file.specs.Fresh.{fresh}
-use Rattle.contract_file.specs.Sound.{Sound}
 use Rattle.contract_file.proofs.Freshly.{fresh_sound}
 use Rattle.entries.specs.declared.entries.Entry.TheVariants as entries
 use Rattle.openings.specs.declared.shapes.Shape.{Shape}

@@ -1,5 +1,5 @@
 -- One step along the templates' chain.
-use Rattle.std.proofs.Common.{◌≡◌, ℕ, zero, suc, ◌+◌, ◌<◌, refl, add-one, arith}
+use Rattle.std.proofs.Common.{◌≡◌, ℕ, zero, suc, ◌+◌, ◌<◌, add-one, arith}
 use Rattle.contract_file.specs.declared.files.File.{File}
 use Rattle.entries.specs.Parts.{at, next_template}
 use Rattle.contract_file.specs.Chains.{chain}

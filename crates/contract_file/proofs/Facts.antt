@@ -12,7 +12,7 @@ use Rattle.entries.specs.declared.entries.Entry.{Entry}
 use Rattle.entries.specs.declared.entries.Entry.TheVariants.{Lost, Done, Step, Choice, Both, Then, Call, Template, Condition, Argument}
 use Rattle.entries.specs.Parts.{at, Listed}
 use Rattle.contract_file.specs.declared.files.File.{File}
-use Rattle.contract_file.specs.Pointing.{Leads, EndsOrLeads, SidesLead, EntryLeads, HeadLeads}
+use Rattle.contract_file.specs.Pointing.{Leads, EndsOrLeads, EntryLeads, HeadLeads}
 use Rattle.contract_file.specs.Chains.{Numbered, Rising}
 use Rattle.contract_file.specs.Clauses.{RightCall, CallRight, RightWindow, WindowRight}
 use Rattle.contract_file.specs.Sound.{Parsed, Sound}

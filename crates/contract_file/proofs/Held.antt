@@ -1,10 +1,7 @@
 -- What is known of a file that is read, behind the questions that pass.
-use Rattle.std.proofs.Common.{◌≡◌, ℕ, ◌<◌, ◌≤◌, List, sym, refl, subst, arith}
-use Rattle.entries.specs.declared.entries.Entry.TheVariants.{Lost}
-use Rattle.contract_file.specs.declared.files.File.{File}
-use Rattle.contract_file.specs.Asking.{Question, Passed, nth}
+use Rattle.std.proofs.Common.{ℕ, List, arith}
 use Rattle.entries.specs.Parts.{at, Listed}
-use Rattle.contract_file.specs.Files.{count_of, decoded}
+use Rattle.contract_file.specs.Files.{decoded}
 use Rattle.contract_file.specs.Questions.{RightLength, reading}
 use Rattle.contract_file.specs.Sound.{Parsed, Sound}
 use Rattle.contract_file.proofs.Tables.{table_long, table_nowhere, table_past}

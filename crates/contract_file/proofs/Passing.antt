@@ -1,5 +1,5 @@
 -- One question more that passes, and the first that fails.
-use Rattle.std.proofs.Common.{◌≡◌, ℕ, ◌+◌, ◌<◌, ◌≤◌, List, sym, subst, arith, below_none, below_more}
+use Rattle.std.proofs.Common.{◌≡◌, ℕ, ◌+◌, ◌<◌, ◌≤◌, List, arith, below_none, below_more}
 use Rattle.contract_file.specs.declared.faults.Fault.{Fault}
 use Rattle.contract_file.specs.Faults.{fault_number, fault_entry}
 use Rattle.contract_file.specs.Asking.{Question, nth, Passed, Lowest, Refused}

@@ -1,5 +1,5 @@
 -- The pass that finds the lowest template that reaches each entry.
-use Rattle.std.proofs.Common.{◌≡◌, ℕ, ◌+◌, ◌<◌, ◌≤◌, ◌≢◌, ◌⊎◌, List, length, get_or, replicate, sym, refl, ap, ◌∙◌, subst, inl, inr, arith}
+use Rattle.std.proofs.Common.{◌≡◌, ℕ, ◌+◌, ◌<◌, ◌≤◌, ◌⊎◌, List, length, get_or, replicate, sym, refl, ap, ◌∙◌, subst, inl, inr, arith}
 use Rattle.std.proofs.lemmas.Bool.{cases_eq, cases_lt}
 use Rattle.std.proofs.lemmas.List.{get_or_past, get_or-replicate}
 use Rattle.contract_file.specs.declared.reach.Way.{Way}
@@ -9,7 +9,7 @@ use Rattle.entries.specs.declared.entries.Entry.TheVariants.{Lost, Done, Step, C
 use Rattle.entries.specs.Parts.{at, Listed}
 use Rattle.contract_file.specs.Pass.{LowestReach, lowered, begun}
 use Rattle.contract_file.specs.Reach.{onward, To, Reached, at_body, further}
-use Rattle.contract_file.proofs.Lowering.{Lower, lower}
+use Rattle.contract_file.proofs.Lowering.{lower}
 
 module _ (way : Way) (es : List Entry) where
   -- the entries below i have been passed

@@ -1,5 +1,5 @@
 -- What a contract file holds, by its bytes. Entries are numbered from 1, and stand at their numbers.
-use Rattle.std.specs.Prelude.{ℕ, ◌+◌, ◌-◌, ◌*◌, Bool, true, cond, ◌&&◌, List, map, take, drop, is_some, Some, None, Option, nat_le, slice_index}
+use Rattle.std.specs.Prelude.{ℕ, ◌-◌, ◌*◌, cond, ◌&&◌, List, map, take, drop, Some, None, Option, nat_le, slice_index}
 use Rattle.std.specs.List.{range_with_len}
 use Rattle.entries.specs.declared.entries.Entry.{Entry}
 use Rattle.entries.specs.declared.entries.Entry.TheVariants.{Lost}

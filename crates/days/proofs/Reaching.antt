@@ -3,7 +3,7 @@ use Rattle.std.proofs.Common.{◌≡◌, ℕ, ◌<◌, ◌≤◌, min, max, Some
 use native.Mathlib.Decide.{dec_le}
 use Rattle.std.proofs.lemmas.Bool.{le-leb, lt-leb}
 use Rattle.language.specs.Clauses.{Window, first, last}
-use Rattle.language.specs.Ends.{after, up_to, reach}
+use Rattle.language.specs.Ends.{up_to, reach}
 
 pub in_time : (end d : ℕ) → d ≤ end → Some d ≡ up_to end d
 unfolding up_to

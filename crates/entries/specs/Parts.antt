@@ -1,5 +1,5 @@
 -- The parts of an entry that the questions speak of. A pointer that an entry has not is 0. Assumes nothing.
-use Rattle.std.specs.Prelude.{◌≡◌, ℕ, ◌≤◌, Bool, true, List, Some, None, Option, slice_index_or}
+use Rattle.std.specs.Prelude.{◌≡◌, ℕ, ◌≤◌, true, List, Some, None, Option, slice_index_or}
 use Rattle.kinds.specs.declared.fields.Test.{Test}
 use Rattle.kinds.specs.declared.rows.Value.{Value}
 use Rattle.kinds.specs.Rows.{listed, listed_value}

@@ -1,5 +1,5 @@
 -- A contract that is small enough is held whole once it is opened.
-use Rattle.std.proofs.Common.{◌≡◌, ℕ, ◌≤◌, Bool, sym, subst}
+use Rattle.std.proofs.Common.{◌≡◌, ℕ, ◌≤◌, Bool, subst}
 use Rattle.language.specs.Terms.{nodes}
 use Rattle.openings.specs.declared.known.Openings.{Openings}
 use Rattle.terms.specs.declared.nodes.Table.{Table}

@@ -1,5 +1,5 @@
 -- The term that is computed from a table is the one that the table holds.
-use Rattle.std.proofs.Common.{◌≡◌, ℕ, zero, suc, ◌+◌, ◌<◌, ◌≤◌, cond, eqb, ltb, List, length, get_or, Some, None, Option, sym, refl, ap, ◌∙◌, subst, arith}
+use Rattle.std.proofs.Common.{◌≡◌, ℕ, zero, suc, ◌+◌, ◌≤◌, eqb, ltb, List, length, get_or, Some, None, Option, sym, refl, ap, ◌∙◌, subst, arith}
 use mathlib.Core.Logic.{∥∥₁_elim}
 use mathlib.Core.HLevel.{⊥_prop}
 use base.Stored.{coded_ℕ}
@@ -16,7 +16,7 @@ use Rattle.terms.specs.declared.nodes.Node.TheVariants.{Lost, Done, Leaf, Choice
 use Rattle.terms.specs.declared.nodes.Table.{Table}
 use Rattle.terms.specs.Tables.{Is, Holds}
 use Rattle.terms.proofs.Writing.{some_nodes}
-use Rattle.held.specs.Whole.{Whole, bind, leaf_by, sides_by, node_by, term_at, Long, SomeWhole}
+use Rattle.held.specs.Whole.{Whole, bind, leaf_by, node_by, term_at, Long, SomeWhole}
 
 -- where there is a term, Q holds of it
 abbrev At : Option Term → (Term → Type 0) → Type 0

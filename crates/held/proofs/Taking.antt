@@ -1,5 +1,5 @@
 -- What is held after a record was taken, or refused.
-use Rattle.std.proofs.Common.{◌≡◌, ℕ, ◌≤◌, Bool, sym, subst, arith}
+use Rattle.std.proofs.Common.{Bool, sym, subst, arith}
 use native.Mathlib.Decide.{dec_le}
 use Rattle.language.specs.Terms.{Term, nodes}
 use Rattle.contract_file.specs.declared.files.File.{File}

@@ -1,5 +1,4 @@
 -- A contract as it is held. Assumes nothing.
-use Rattle.std.specs.Prelude.{◌≡◌}
 use Rattle.language.specs.Terms.{Term}
 use Rattle.contract_file.specs.declared.files.File.{File}
 use Rattle.held.specs.declared.held.Held.{Held}

@@ -1,20 +1,20 @@
 -- In the templates of a sound file each bare call names a lower template.
-use Rattle.std.proofs.Common.{◌≡◌, ℕ, zero, suc, ◌+◌, ◌-◌, ◌<◌, ◌≤◌, ◌⊎◌, List, sym, refl, ap, ◌∙◌, subst, inl, inr, add-one, arith}
+use Rattle.std.proofs.Common.{◌≡◌, ℕ, zero, suc, ◌+◌, ◌-◌, ◌<◌, ◌≤◌, List, sym, refl, ap, ◌∙◌, subst, inl, inr, arith}
 use native.Mathlib.Decide.{dec_le}
 use Rattle.std.proofs.lemmas.Bool.{cases_order, cases_eq}
-use Rattle.language.specs.Clauses.{Clause, lost, body}
+use Rattle.language.specs.Clauses.{Clause}
 use Rattle.language.specs.Terms.{BareBelow, Guarded}
 use Rattle.entries.specs.declared.entries.Entry.{Entry}
 use Rattle.entries.specs.declared.entries.Entry.TheVariants.{Lost, Done, Step, Choice, Both, Then, Call, Template, Condition, Argument}
 use Rattle.entries.specs.Parts.{at, next_template, Listed}
 use Rattle.contract_file.specs.declared.files.File.{File}
 use Rattle.contract_file.specs.Pointing.{EntryLeads}
-use Rattle.contract_file.specs.Chains.{chain, Numbered}
+use Rattle.contract_file.specs.Chains.{chain}
 use Rattle.contract_file.specs.Clauses.{CallRight}
 use Rattle.contract_file.specs.Reach.{Bare, at_body, further}
 use Rattle.contract_file.specs.Sound.{Sound}
 use Rattle.contract_file.proofs.Along.{chain_more}
-use Rattle.openings.specs.Clauses.{clause_by, clause_of, clause_at, body_of, body_at, templates_of}
+use Rattle.openings.specs.Clauses.{clause_by, clause_of, clause_at, body_of, templates_of}
 use Rattle.openings.proofs.Unfolding.{leading, leads_at, unfolds_none, body_is, body_past}
 
 module _ (f : File) (sound : Sound f) where

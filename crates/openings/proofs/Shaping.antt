@@ -1,8 +1,8 @@
 -- A tidied node's shape is made of the shapes of its parts.
-use Rattle.std.proofs.Common.{◌≡◌, ℕ, ◌+◌, min, Bool, true, false, cond, ◌&&◌, ◌||◌, sym, refl, ap, ◌∙◌, ap₂, arith}
+use Rattle.std.proofs.Common.{◌≡◌, ℕ, Bool, true, false, cond, ◌||◌, refl, ap, ◌∙◌, ap₂, arith}
 use Rattle.kinds.specs.Rows.{Row}
 use Rattle.language.specs.Clauses.{Clause}
-use Rattle.language.specs.Terms.{Term, Done, Lost, Leaf, Choice, Both, Follow, nodes, is_lost, is_done, may_end, choice_of, both_of, follow_of, then_of}
+use Rattle.language.specs.Terms.{Term, Lost, Choice, Both, Follow, is_lost, is_done, may_end, choice_of, both_of, follow_of, then_of}
 use Rattle.openings.specs.declared.shapes.Shape.{Shape}
 use Rattle.openings.specs.Shapes.{shape_of, lost_shape, choice_node, both_node, follow_node, choice_shape, both_shape, follow_shape, then_shape}
 

@@ -1,5 +1,5 @@
 -- What a term comes to: its size held at 257, whether it is lost or done, and whether it may end. Assumes nothing.
-use Rattle.std.specs.Prelude.{◌≡◌, ℕ, ◌+◌, min, Bool, true, false, cond, ◌&&◌, ◌||◌, List, map, slice_index_or}
+use Rattle.std.specs.Prelude.{◌≡◌, ℕ, ◌+◌, min, true, false, cond, ◌&&◌, ◌||◌, List, map, slice_index_or}
 use Rattle.std.specs.List.{range_with_len}
 use Rattle.kinds.specs.Rows.{Row, zeros}
 use Rattle.language.specs.Terms.{Term, nodes, is_lost, is_done, may_end, open_call, opened}

@@ -1,7 +1,7 @@
 -- What is written for what is left of a term is what is left of it.
-use Rattle.std.proofs.Common.{◌≡◌, ℕ, ◌+◌, ◌<◌, ◌≤◌, cond, ◌||◌, List, get_or, Some, None, Option, sym, refl, ap, ◌∙◌, subst, ap₂, arith}
+use Rattle.std.proofs.Common.{◌≡◌, ℕ, ◌+◌, ◌<◌, ◌≤◌, ◌||◌, List, get_or, Some, None, Option, sym, refl, ap, ◌∙◌, subst, ap₂, arith}
 use Rattle.kinds.specs.Rows.{Row}
-use Rattle.language.specs.Terms.{Term, Done, Lost, Leaf, Choice, Both, Follow, nodes, is_lost, is_done, may_end, choice_of, both_of, then_of, opened}
+use Rattle.language.specs.Terms.{Term, Lost, Choice, Both, Follow, nodes, is_lost, is_done, may_end, choice_of, both_of, then_of, opened}
 use Rattle.std.proofs.lemmas.Bool.{cond_both}
 use Rattle.openings.specs.declared.shapes.Shape.{Shape}
 use Rattle.openings.specs.Clauses.{clause_at, templates_of}

@@ -1,9 +1,9 @@
 -- The rounds come to the durations.
-use Rattle.std.proofs.Common.{eqb, ◌&&◌, ◌≡◌, ℕ, zero, suc, ◌+◌, ◌*◌, ◌<◌, Bool, true, false, ◌≢◌, List, [], ◌∷◌, map, length, get_or, set, replicate, Some, None, Decides, Option, sym, refl, ap, ◌∙◌, ap₂, inl, inr, arith, length-set, get_or-set_other, get_or-set_same, ext_get_or, MatchOption}
+use Rattle.std.proofs.Common.{eqb, ◌&&◌, ◌≡◌, ℕ, zero, suc, ◌+◌, ◌*◌, ◌<◌, true, false, ◌≢◌, List, [], ◌∷◌, map, length, get_or, set, replicate, Some, None, Option, sym, refl, ap, ◌∙◌, ap₂, arith, length-set, get_or-set_other, get_or-set_same, ext_get_or}
 use native.Mathlib.Decide.{dec_le}
 use Rattle.std.specs.Cmp.Lexicographic.{pointwise}
 use Rattle.std.specs.Option.{option_eq}
-use Rattle.std.proofs.lemmas.Bool.{cond-true, cond-false, eq-eqb, ne_eqb, false≢true, and_from, and_left, and_right}
+use Rattle.std.proofs.lemmas.Bool.{cond-true, cond-false}
 use Rattle.language.specs.Clauses.{Clause, lost}
 use Rattle.language.specs.Ends.{Durations, ends, round, same_day, same, settle, durations}
 use Rattle.contract_file.specs.declared.files.File.{File}

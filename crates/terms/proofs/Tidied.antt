@@ -1,8 +1,8 @@
 -- A tidied node, case by case.
-use Rattle.std.proofs.Common.{◌≡◌, Bool, true, false, cond, ◌||◌, refl}
+use Rattle.std.proofs.Common.{◌≡◌, true, false, ◌||◌}
 use Rattle.kinds.specs.Rows.{Row}
 use Rattle.language.specs.Clauses.{Clause}
-use Rattle.language.specs.Terms.{Term, Done, Lost, Choice, Both, Follow, is_lost, is_done, may_end, choice_of, both_of, follow_of, then_of}
+use Rattle.language.specs.Terms.{Term, Lost, Choice, Both, Follow, is_lost, is_done, may_end, choice_of, both_of, follow_of, then_of}
 
 module _ (l r : Term) where
   pub choice_right : is_lost l ≡ true → choice_of l r ≡ r

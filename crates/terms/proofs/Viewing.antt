@@ -1,5 +1,5 @@
 -- What a node says of the term that it is the root of.
-use Rattle.std.proofs.Common.{◌≡◌, ℕ, ◌+◌, List, get_or, sym, refl, ◌∙◌, subst}
+use Rattle.std.proofs.Common.{◌≡◌, ℕ, ◌+◌, List, get_or, sym, refl, subst}
 use Rattle.kinds.specs.declared.fields.Conditions.{Conditions}
 use Rattle.kinds.specs.Rows.{Row}
 use Rattle.language.specs.Clauses.{Window, Clause, step}

@@ -1,5 +1,5 @@
 -- What a table holds after pushes and writes.
-use Rattle.std.proofs.Common.{◌≡◌, ℕ, ◌+◌, ◌<◌, ◌≤◌, Bool, true, false, cond, ltb, ◌≢◌, List, length, get_or, set, sym, refl, ap, ◌∙◌, subst, arith, length-set, get_or-set_other, get_or-set_same}
+use Rattle.std.proofs.Common.{◌≡◌, ℕ, ◌+◌, ◌<◌, ◌≤◌, true, cond, ltb, ◌≢◌, List, length, get_or, set, sym, refl, ap, ◌∙◌, subst, arith, length-set, get_or-set_other, get_or-set_same}
 use Rattle.std.proofs.lemmas.Bool.Decides.{nat_tests}
 use Rattle.kinds.specs.Rows.{Row}
 use Rattle.kinds.specs.declared.fields.Conditions.{Conditions}
@@ -10,7 +10,7 @@ use Rattle.terms.specs.declared.nodes.Node.{Node}
 use Rattle.terms.specs.declared.nodes.Node.TheVariants as node
 use Rattle.terms.specs.declared.nodes.Table.{Table}
 use Rattle.openings.specs.Clauses.{clause_at}
-use Rattle.terms.specs.Tables.{pushed, Is, Holds, Wrote, Writes}
+use Rattle.terms.specs.Tables.{pushed, Is, Holds, Writes}
 
 pub some_nodes : (t : Term) → 0 < nodes t
 some_nodes Done = omega arith

@@ -1,4 +1,4 @@
-use Rattle.std.proofs.Common.{◌≡◌, ◌+◌, ◌-◌, ◌*◌, ◌^◌, ◌<◌, sym, ◌∙◌, pow-suc, add-one, arith}
+use Rattle.std.proofs.Common.{pow-suc, add-one, arith}
 use Rattle.std.proofs.lemmas.Bool.Decides.{nat_tests}
 use Rattle.lines.specs.Numbers.{number_of}
 use Rattle.lines.proofs.Scans.{value_next, value_end}

@@ -1,4 +1,4 @@
-use Rattle.std.proofs.Common.{◌≡◌, Ok, Err, refl, ap, ◌∙◌, subst, arith}
+use Rattle.std.proofs.Common.{Ok, Err, refl, ap, ◌∙◌, subst, arith}
 use Rattle.std.proofs.lemmas.Result.{err_from_is_err_and}
 use Rattle.contract_file.specs.declared.files.File.{File}
 use Rattle.contract_file.specs.Asking.{Refused}
@@ -6,7 +6,6 @@ use Rattle.contract_file.proofs.Passing.{Below}
 use Rattle.openings.specs.Shapes.{openings_of}
 use Rattle.answers.specs.Approving.{approving}
 use Rattle.answers.proofs.Answering.{is_computed}
-use Rattle.approval.specs.Contents.{Contents}
 use Rattle.approval.proofs.Joining.{refused_reading, refused_approving, all_pass}
 use Rattle.approval.proofs.checking.check.Goals as goal
 

@@ -4,7 +4,7 @@ use Rattle.entries.specs.declared.entries.Entry.{Entry}
 use Rattle.entries.specs.declared.entries.Entry.TheVariants.{Lost}
 use Rattle.entries.specs.Parts.{at}
 use Rattle.contract_file.specs.declared.files.File.{File}
-use Rattle.contract_file.specs.Chains.{Numbered, Rising, Chained}
+use Rattle.contract_file.specs.Chains.{Numbered, Rising}
 use Rattle.contract_file.proofs.Everywhere.{everywhere}
 use Rattle.contract_file.proofs.Flooring.{none_noted, one_noted}
 use Rattle.contract_file.proofs.chains.ask_chains.Goals as goal

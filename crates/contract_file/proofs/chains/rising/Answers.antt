@@ -1,6 +1,5 @@
-use Rattle.std.proofs.Common.{◌≡◌, ℕ, ◌≤◌, true, leb, get_or, Decides, sym, subst, arith}
+use Rattle.std.proofs.Common.{get_or}
 use Rattle.std.proofs.lemmas.Bool.{leb-true, le-leb}
-use Rattle.contract_file.specs.Chains.{Above}
 use Rattle.contract_file.proofs.Flooring.{above_floor, floor_above}
 use Rattle.contract_file.proofs.chains.rising.Goals as goal
 

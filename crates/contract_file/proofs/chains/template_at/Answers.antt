@@ -1,4 +1,4 @@
-use Rattle.std.proofs.Common.{◌≡◌, sym, refl, ap, ◌∙◌, arith}
+use Rattle.std.proofs.Common.{sym, refl, ap, ◌∙◌, arith}
 use Rattle.entries.specs.Parts.{at, next_template}
 use Rattle.contract_file.specs.Chains.{chain}
 use Rattle.contract_file.proofs.Along.{chain_more}

@@ -1,5 +1,5 @@
 use Rattle.std.proofs.Common.{ℕ, ◌<◌}
-use Rattle.contract_file.specs.Pointing.{HeadLeads, EntryLeads}
+use Rattle.contract_file.specs.Pointing.{EntryLeads}
 use Rattle.entries.specs.Parts.{at}
 use Rattle.contract_file.proofs.pointers.ask_pointers.Given as goal
 

@@ -1,10 +1,8 @@
-use Rattle.std.proofs.Common.{◌≡◌, ℕ, ◌+◌, ◌<◌, ◌≤◌, ◌⊎◌, sym, refl, ap, ◌∙◌, subst, inl, inr, arith}
-use Rattle.entries.specs.declared.entries.Entry.TheVariants.{Template}
+use Rattle.std.proofs.Common.{◌≡◌, ℕ, ◌<◌, ◌≤◌, ◌⊎◌, inl, inr, arith}
 use Rattle.entries.specs.Parts.{at}
 use Rattle.contract_file.specs.Pointing.{EntryLeads}
-use Rattle.contract_file.specs.Reach.{onward}
 use Rattle.contract_file.proofs.Ahead.{ahead, Ahead}
-use Rattle.contract_file.proofs.Spreading.{Spread, none_passed, started, passed, all_passed}
+use Rattle.contract_file.proofs.Spreading.{none_passed, started, passed, all_passed}
 use Rattle.contract_file.proofs.reach.lowest.Goals as goal
 
 pub loop-i-init : goal.loop-i-init

@@ -1,5 +1,4 @@
-use Rattle.std.proofs.Common.{◌≡◌, sym, refl, subst, arith}
-use Rattle.contract_file.specs.Files.{decoded, count_of}
+use Rattle.std.proofs.Common.{sym, subst, arith}
 use Rattle.contract_file.specs.Questions.{reading, RightLength}
 use Rattle.contract_file.specs.Sound.{Parsed}
 use Rattle.contract_file.proofs.Held.{decoded_parsed}

@@ -1,4 +1,4 @@
-use Rattle.std.proofs.Common.{◌≡◌, refl, subst, arith}
+use Rattle.std.proofs.Common.{refl, subst, arith}
 use Rattle.std.proofs.lemmas.Result.{err_from_is_err_and}
 use Rattle.contract_file.specs.declared.faults.Fault.TheVariants.{Pointer, Chain, Call, Window}
 use Rattle.contract_file.specs.declared.files.File.{File}

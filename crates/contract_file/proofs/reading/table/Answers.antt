@@ -1,10 +1,10 @@
-use Rattle.std.proofs.Common.{◌≡◌, ℕ, ◌+◌, ◌-◌, ◌*◌, ◌<◌, ◌≤◌, true, false, length, is_some, Some, None, Option, sym, refl, ap, ◌∙◌, subst, arith, length-set, below_more}
+use Rattle.std.proofs.Common.{◌≡◌, ◌+◌, ◌-◌, ◌*◌, is_some, Some, None, sym, refl, ap, ◌∙◌, subst, arith, length-set, below_more}
 use Rattle.std.proofs.lemmas.Result.{err_from_is_err_and}
 use Rattle.std.proofs.lemmas.Bool.{false≢true}
 use Rattle.contract_file.specs.declared.faults.Fault.TheVariants.{Unlisted}
 use Rattle.entries.specs.Layout.{entry_of}
 use Rattle.entries.specs.Parts.{ListedIf}
-use Rattle.contract_file.specs.Files.{count_of, bytes_of, placed, table_of}
+use Rattle.contract_file.specs.Files.{bytes_of, placed}
 use Rattle.contract_file.specs.Questions.{EntriesListed}
 use Rattle.contract_file.proofs.Tables.{set_listed, all_lost, placed_none, placed_entry, filled_more, filled_rest, filled_all}
 use Rattle.contract_file.proofs.reading.table.Goals as goal

@@ -1,4 +1,4 @@
-use Rattle.std.proofs.Common.{◌≡◌, get_or, refl, inl, inr, arith}
+use Rattle.std.proofs.Common.{get_or, inl, inr, arith}
 use Rattle.std.proofs.lemmas.Bool.{cases_lt, leb-true, le-leb}
 use Rattle.contract_file.proofs.Spreading.{reached_small}
 use Rattle.contract_file.proofs.windows.window_right.Goals as goal

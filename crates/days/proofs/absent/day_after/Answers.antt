@@ -1,4 +1,4 @@
-use Rattle.std.proofs.Common.{◌≡◌, ℕ, ◌+◌, ◌∙◌, ap₂, arith}
+use Rattle.std.proofs.Common.{◌+◌, arith}
 use Rattle.days.proofs.Reaching.{in_time, too_late}
 use Rattle.days.proofs.absent.day_after.Goals as goal
 

@@ -1,4 +1,4 @@
-use Rattle.std.proofs.Common.{◌≡◌, sym, refl, ◌∙◌, arith}
+use Rattle.std.proofs.Common.{sym, refl, ◌∙◌, arith}
 use Rattle.openings.proofs.Opened.{all_lost, pass_none, pass_more}
 use Rattle.openings.proofs.Unfolding.{leading}
 use Rattle.openings.proofs.rounds.pass.Goals as goal

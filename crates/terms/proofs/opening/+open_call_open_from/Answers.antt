@@ -1,4 +1,4 @@
-use Rattle.std.proofs.Common.{◌≡◌, ◌<◌, sym, refl, ap, ◌∙◌, subst, arith}
+use Rattle.std.proofs.Common.{◌≡◌, sym, refl, ap, ◌∙◌, subst, arith}
 use Rattle.kinds.specs.Rows.{fill}
 use Rattle.language.specs.Clauses.{Clause, body}
 use Rattle.language.specs.Terms.{BareBelow, opened}

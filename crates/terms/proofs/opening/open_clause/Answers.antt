@@ -1,4 +1,4 @@
-use Rattle.std.proofs.Common.{◌≡◌, ap, ◌∙◌, arith}
+use Rattle.std.proofs.Common.{ap, ◌∙◌, arith}
 use Rattle.openings.specs.declared.shapes.Shape.{Shape}
 use Rattle.openings.proofs.Facts.{known_openings}
 use Rattle.terms.proofs.Levels.{few_calls}

@@ -1,4 +1,4 @@
-use Rattle.std.proofs.Common.{◌≡◌, sym, ap, arith}
+use Rattle.std.proofs.Common.{sym, ap, arith}
 use Rattle.kinds.specs.Rows.{zeros}
 use Rattle.language.specs.Terms.{opened}
 use Rattle.contract_file.specs.declared.files.File.{File}

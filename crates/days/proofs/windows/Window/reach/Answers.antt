@@ -1,6 +1,4 @@
-use Rattle.std.proofs.Common.{◌≡◌, ℕ, max, sym, arith}
-use Rattle.language.specs.Clauses.{first}
-use Rattle.days.specs.Windows.{meant}
+use Rattle.std.proofs.Common.{arith}
 use Rattle.days.proofs.Reaching.{reached, missed}
 use Rattle.days.proofs.windows.Window.reach.Goals as goal
 

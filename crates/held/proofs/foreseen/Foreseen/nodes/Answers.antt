@@ -1,4 +1,4 @@
-use Rattle.std.proofs.Common.{◌≡◌, ap, ◌∙◌}
+use Rattle.std.proofs.Common.{ap, ◌∙◌}
 use Rattle.openings.specs.declared.shapes.Shape.{Shape}
 use Rattle.contract_file.specs.declared.files.File.{File}
 use Rattle.openings.specs.Rounds.{of}

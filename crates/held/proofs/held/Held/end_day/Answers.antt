@@ -1,4 +1,4 @@
-use Rattle.std.proofs.Common.{◌≡◌, vec_items, sym, ap, subst}
+use Rattle.std.proofs.Common.{sym, subst}
 use Rattle.openings.specs.declared.known.Openings.{Openings}
 use Rattle.terms.specs.Tables.{SomeTerm}
 use Rattle.outlook.specs.Outlooks.{Foretold}

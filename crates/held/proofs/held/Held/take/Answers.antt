@@ -1,4 +1,4 @@
-use Rattle.std.proofs.Common.{◌≡◌, sym, subst}
+use Rattle.std.proofs.Common.{sym, subst}
 use Rattle.language.specs.Terms.{Term}
 use Rattle.language.specs.Residuals.{residual}
 use Rattle.openings.specs.declared.known.Openings.{Openings}
