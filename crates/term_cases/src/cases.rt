@@ -18,7 +18,7 @@ mod costly;
 mod ends;
 mod examples;
 mod inspections;
-mod residuals;
+mod remainders;
 mod rounds;
 mod rows;
 mod sizes;
