@@ -183,7 +183,7 @@ abbrev pub conditions_test : (ℕ → Test → Bool) → File → ℕ → Bool
 conditions_test admits f i = admitted_test admits (at f.entries i)
 
 -- 10: what each entry opens to, without building the terms. Pointers lead up, so one pass from the last entry to the first is enough,
--- where calls open as given. `shapes-on f calls i shapes` passes the entries below i, and has the shapes of those from i on.
+-- where calls open as given. `shapes_on f calls i shapes` passes the entries below i, and has the shapes of those from i on.
 unfoldable pub shapes_on : File → List Shape → ℕ → List Shape → List Shape
 shapes_on f calls zero shapes = shapes
 shapes_on f calls (suc i) shapes = shapes_on f calls i (slice_set shapes i (entry_shape shapes calls (at f.entries i)))

@@ -75,6 +75,7 @@ fn run_case(rt: &impl Abort, heap: Global, place: &mut Checked, line: &[u8]) -> 
     let name = from_utf8(line).unwrap_or("?");
     let parts = parts(heap, line)?;
     let parts = parts.as_slice();
+    assert!(rt; parts.len() > 2, "a part is missing: {name}");
     let [_, told, head, entries @ ..] = parts else {
         return Err(Fail::new("a part is missing"));
     };

@@ -1,8 +1,9 @@
-//! Reports compared, word for word: two contracts, and what is said where bytes of them are changed.
+//! Reports compared, word for word: contracts, what is said where bytes of them are changed, and what they come to.
 #![tactic(auto)]
 
 use approval::{Checked, check};
-use kinds::Transfers;
+use held::{Foreseen, Held};
+use kinds::{Inspections, Transfers};
 use std::alloc::{AllocError, Global};
 use vetting::{prospects, report};
 
@@ -42,7 +43,37 @@ pub const MONTHLY: Contract = Contract {
     ],
 };
 
-/// A place past the end of both: nothing is changed.
+/// A wheel inspection that is called with arguments, and behind it a choice of plans.
+pub const WHEELS: Contract = Contract {
+    head: [2, 1, 0, 23, 0, 16, 0, 1],
+    entries: &[
+        [6, 0, 0, 2, 0, 3, 0, 0, 0, 0, 0, 0, 0, 0, 0, 0],
+        [7, 1, 0, 0, 0, 12, 0, 0, 0, 0, 0, 0, 0, 0, 0, 0],
+        [4, 0, 0, 4, 0, 5, 0, 0, 0, 0, 0, 0, 0, 0, 0, 0],
+        [1, 0, 0, 0, 0, 0, 0, 0, 0, 0, 0, 0, 0, 0, 0, 0],
+        [5, 0, 0, 6, 0, 7, 0, 0, 0, 0, 0, 0, 0, 0, 0, 0],
+        [3, 1, 0, 8, 0, 14, 0, 0, 0, 0, 0, 100, 0, 0, 0, 200],
+        [4, 0, 0, 9, 0, 10, 0, 0, 0, 0, 0, 0, 0, 0, 0, 0],
+        [1, 0, 0, 0, 0, 0, 0, 0, 0, 0, 0, 0, 0, 0, 0, 0],
+        [2, 0, 0, 0, 0, 0, 0, 0, 0, 0, 0, 0, 0, 0, 0, 0],
+        [3, 0, 0, 11, 0, 0, 0, 0, 0, 0, 0, 28, 0, 0, 0, 31],
+        [1, 0, 0, 0, 0, 0, 0, 0, 0, 0, 0, 0, 0, 0, 0, 0],
+        [10, 0, 0, 1, 0, 0, 0, 13, 0, 0, 0, 42, 0, 0, 0, 0],
+        [10, 3, 0, 2, 0, 1, 0, 0, 0, 0, 0, 0, 0, 0, 0, 0],
+        [9, 1, 0, 1, 0, 0, 0, 15, 0, 0, 0, 7, 0, 0, 0, 0],
+        [9, 4, 0, 4, 0, 2, 0, 0, 0, 0, 0, 0, 0, 0, 0, 0],
+        [8, 1, 0, 17, 0, 0, 0, 0, 0, 0, 0, 0, 0, 0, 0, 0],
+        [3, 0, 0, 18, 0, 20, 0, 0, 0, 0, 0, 0, 0, 0, 0, 30],
+        [4, 0, 0, 19, 0, 22, 0, 0, 0, 0, 0, 0, 0, 0, 0, 0],
+        [1, 0, 0, 0, 0, 0, 0, 0, 0, 0, 0, 0, 0, 0, 0, 0],
+        [9, 1, 0, 3, 0, 0, 0, 21, 0, 0, 0, 0, 0, 0, 0, 0],
+        [9, 3, 0, 6, 0, 0, 0, 23, 255, 255, 255, 255, 0, 0, 0, 5],
+        [7, 1, 0, 0, 0, 0, 0, 0, 0, 0, 0, 0, 0, 0, 0, 0],
+        [9, 4, 0, 5, 0, 2, 0, 0, 0, 0, 1, 244, 0, 0, 0, 0],
+    ],
+};
+
+/// A place past the end of each: nothing is changed.
 pub const NOWHERE: usize = 9999;
 
 /// Two bytes changed, and the report.
@@ -167,25 +198,25 @@ pub const ON_MONTHLY: [Case; 3] = [
     },
 ];
 
-/// What contracts come to when they are opened: what is due, and the earliest end.
+/// What is told of contracts that pass, and then what they come to when they are opened: what is due, and the earliest end.
 pub const AHEAD_OF_DELIVERY: [Case; 3] = [
     Case {
         name: "unchanged",
         edits: [(NOWHERE, 0), (NOWHERE, 0)],
         day: 100,
-        text: "due: entry 1, from day 100 to day 114\nearliest end: day 100\n",
+        text: "ok\nkind 1 (transfers), signing day 100, entries 10, templates 0, nodes on opening 1, contract at entry 1\n1 step, days 0 to 14 after its base, from = 2, to = 1, resource = 7, then 2\n2 step, days 0 to 8 after its base, from = 1, to = 2, resource = 1, amount = 500, then 3\n3 done\n4 condition, from = 2, next 5\n5 condition, to = 1, next 6\n6 condition, resource = 7, the last of its chain\n7 condition, from = 1, next 8\n8 condition, to = 2, next 9\n9 condition, resource = 1, next 10\n10 condition, amount = 500, the last of its chain\ndue: entry 1, from day 100 to day 114\nearliest end: day 100\n",
     },
     Case {
         name: "a contract that is done",
         edits: [(7, 3), (NOWHERE, 0)],
         day: 100,
-        text: "due: nothing\nearliest end: day 100\n",
+        text: "ok\nkind 1 (transfers), signing day 100, entries 10, templates 0, nodes on opening 1, contract at entry 3\n1 step, days 0 to 14 after its base, from = 2, to = 1, resource = 7, then 2\n2 step, days 0 to 8 after its base, from = 1, to = 2, resource = 1, amount = 500, then 3\n3 done\n4 condition, from = 2, next 5\n5 condition, to = 1, next 6\n6 condition, resource = 7, the last of its chain\n7 condition, from = 1, next 8\n8 condition, to = 2, next 9\n9 condition, resource = 1, next 10\n10 condition, amount = 500, the last of its chain\ndue: nothing\nearliest end: day 100\n",
     },
     Case {
         name: "a window that is past",
         edits: [(9, 1), (NOWHERE, 0)],
         day: 100,
-        text: "due: entry 1, from day 0 to day 14, which is past\nearliest end: none, no records can perform it\n",
+        text: "ok\nkind 1 (transfers), signing day 100, entries 10, templates 0, nodes on opening 1, contract at entry 1\n1 step, days 0 to 14 of the calendar, from = 2, to = 1, resource = 7, then 2\n2 step, days 0 to 8 after its base, from = 1, to = 2, resource = 1, amount = 500, then 3\n3 done\n4 condition, from = 2, next 5\n5 condition, to = 1, next 6\n6 condition, resource = 7, the last of its chain\n7 condition, from = 1, next 8\n8 condition, to = 2, next 9\n9 condition, resource = 1, next 10\n10 condition, amount = 500, the last of its chain\ndue: entry 1, from day 0 to day 14, which is past\nearliest end: none, no records can perform it\n",
     },
 ];
 
@@ -193,7 +224,14 @@ pub const AHEAD_OF_MONTHLY: [Case; 1] = [Case {
     name: "unchanged",
     edits: [(NOWHERE, 0), (NOWHERE, 0)],
     day: 0,
-    text: "due: entry 3, from day 28 to day 31\nearliest end: day 28\n",
+    text: "ok\nkind 1 (transfers), signing day 0, entries 6, templates 1, nodes on opening 1, contract at entry 1\n1 call of template 1\n2 template 1, body 3, the last of its chain\n3 step, days 28 to 31 after its base, then 4\n4 choice, 5 or 6\n5 done\n6 call of template 1\ndue: entry 3, from day 28 to day 31\nearliest end: day 28\n",
+}];
+
+pub const AHEAD_OF_WHEELS: [Case; 1] = [Case {
+    name: "unchanged",
+    edits: [(NOWHERE, 0), (NOWHERE, 0)],
+    day: 100,
+    text: "ok\nkind 2 (inspections), signing day 100, entries 23, templates 1, nodes on opening 2, contract at entry 1\n1 then, first 2 and behind it 3\n2 call of template 1, slot 0 = 42, slot 3 = slot 1\n3 choice, 4 or 5\n4 done\n5 both, 6 and 7\n6 step, days 100 to 200 of the calendar, vehicle = 7, odometer into slot 2, then 8\n7 choice, 9 or 10\n8 done\n9 lost\n10 step, days 28 to 31 after its base, then 11\n11 done\n12 argument, slot 0 = 42, next 13\n13 argument, slot 3 = slot 1, the last of its chain\n14 condition, vehicle = 7, next 15\n15 condition, odometer into slot 2, the last of its chain\n16 template 1, body 17, the last of its chain\n17 step, days 0 to 30 after its base, vehicle = slot 0, reading at most 5 away from -1, odometer at least slot 2 + 500, then 18\n18 choice, 19 or 22\n19 done\n20 condition, vehicle = slot 0, next 21\n21 condition, reading at most 5 away from -1, next 23\n22 call of template 1\n23 condition, odometer at least slot 2 + 500, the last of its chain\ndue: entry 17, from day 100 to day 130\nearliest end: day 100\n",
 }];
 
 /// The bytes of a contract.
@@ -231,7 +269,20 @@ pub fn edited(
     report(heap, &bytes, day)
 }
 
-/// What a contract of transfers with some bytes changed comes to; what a new place does, where it is refused.
+/// Opens a contract on its signing day; where it is refused, a new place in its stead.
+fn opened(heap: Global, bytes: &[u8], day: u32) -> Result<Held, AllocError> {
+    let mut place = Checked::new();
+    let answer = match bytes {
+        [Inspections::NUMBER, ..] => check(&mut place, bytes, &Inspections, day),
+        _ => check(&mut place, bytes, &Transfers, day),
+    };
+    if answer.is_err() {
+        place = Checked::new();
+    }
+    Ok(Held::open(Foreseen::over(heap, place)?))
+}
+
+/// The report on a contract with some bytes changed, and then what it comes to.
 pub fn looked_ahead(
     heap: Global,
     contract: &Contract,
@@ -239,11 +290,10 @@ pub fn looked_ahead(
     day: u32,
 ) -> Result<String, AllocError> {
     let bytes = changed(heap, contract, edits)?;
-    let mut place = Checked::new();
-    if check(&mut place, &bytes, &Transfers, day).is_err() {
-        place = Checked::new();
-    }
-    prospects(heap, place)
+    let mut text = report(heap, &bytes, day)?;
+    let ahead = prospects(heap, &opened(heap, &bytes, day)?, day)?;
+    text.push_str(ahead.as_str())?;
+    Ok(text)
 }
 
 #[cfg(test)]
@@ -296,6 +346,11 @@ mod tests {
     #[test]
     fn ahead_of_monthly(rt: HostRuntime) -> Result<(), Fail> {
         compare_ahead(&rt, rt.alloc(), &MONTHLY, &AHEAD_OF_MONTHLY)
+    }
+
+    #[test]
+    fn ahead_of_wheels(rt: HostRuntime) -> Result<(), Fail> {
+        compare_ahead(&rt, rt.alloc(), &WHEELS, &AHEAD_OF_WHEELS)
     }
 
     #[test]

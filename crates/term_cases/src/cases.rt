@@ -41,17 +41,21 @@ const UNTOUCHED: u64 = 7;
 const PLACES: usize = 800;
 
 /// Opens a file for the kind and the signing day of its head.
-fn opened(heap: Global, head: &Numbers, entries: &[Numbers]) -> Result<Held, Fail> {
+fn opened(
+    rt: &impl Abort,
+    name: &str,
+    heap: Global,
+    head: &Numbers,
+    entries: &[Numbers],
+) -> Result<Held, Fail> {
     let bytes = file_bytes(heap, head, entries)?;
     let mut place = Checked::new();
     let answer = match head[1] {
         2 => check(&mut place, &bytes, &Inspections, head[6]),
         _ => check(&mut place, &bytes, &Transfers, head[6]),
     };
-    match answer {
-        Ok(()) => Ok(Held::open(Foreseen::over(heap, place)?)),
-        Err(_) => Err(Fail::new("the file is refused")),
-    }
+    assert!(rt; answer.is_ok(), "the file is refused: {name}");
+    Ok(Held::open(Foreseen::over(heap, place)?))
 }
 
 /// Sends a record: an inspection for kind 2, and a transfer for any other.
@@ -165,6 +169,7 @@ fn run_line(rt: &impl Abort, heap: Global, held: &mut Held, line: &[u8]) -> Resu
     let name = from_utf8(line).unwrap_or("?");
     let parts = parts(heap, line)?;
     let parts = parts.as_slice();
+    assert!(rt; parts.len() > 1, "a part is missing: {name}");
     let [happens, told, items @ ..] = parts else {
         return Err(Fail::new("a part is missing"));
     };
@@ -192,12 +197,14 @@ fn run_either(rt: &impl Abort, heap: Global, held: &mut Held, line: &[u8]) -> Re
     if let [32, ..] = line {
         return run_line(rt, heap, held, line);
     }
+    let name = from_utf8(line).unwrap_or("?");
     let parts = parts(heap, line)?;
     let parts = parts.as_slice();
+    assert!(rt; parts.len() > 1, "a part is missing: {name}");
     let [_, head, entries @ ..] = parts else {
         return Err(Fail::new("a part is missing"));
     };
-    *held = opened(heap, head, entries)?;
+    *held = opened(rt, name, heap, head, entries)?;
     Ok(())
 }
 

@@ -1,6 +1,5 @@
 //! What a contract comes to when it is opened: what is due, and the earliest end.
-use approval::Checked;
-use held::{Foreseen, Held};
+use held::Held;
 use std::alloc::{AllocError, Global};
 
 /// Three places for each leaf of the largest term.
@@ -33,11 +32,9 @@ fn due(heap: Global, held: &Held, day: u32) -> Result<String, AllocError> {
     Ok(text)
 }
 
-/// What is due on the signing day of a checked file, and the earliest end from that day on.
-pub fn prospects(heap: Global, checked: Checked) -> Result<String, AllocError> {
-    let day = checked.day();
-    let held = Held::open(Foreseen::over(heap, checked)?);
-    let mut text = due(heap, &held, day)?;
+/// What is due on a day, and the earliest end from that day on.
+pub fn prospects(heap: Global, held: &Held, day: u32) -> Result<String, AllocError> {
+    let mut text = due(heap, held, day)?;
     let end = match held.end_day(day) {
         Some(end) => format!(in heap; "earliest end: day {end}\n")?,
         None => String::from_str(heap, "earliest end: none, no records can perform it\n")?,
