@@ -22,7 +22,6 @@ CHOSEN = {"row-after": "met_row", "row-after-iff": "met_row_iff", "computed-answ
 # Names that functions of src/ have too, as a definition may.
 SHARED = {"by_tag", "end_day"}
 GOAL = re.compile(r"^\s*(?:abbrev\s+)?(?:pub\s+)?(" + NAME + r")\s*:\s*goal\.")
-ALIAS = re.compile(r"\b([A-Za-z_]+)\s+as\s+([A-Za-z_]+)")
 
 
 def files(root):
