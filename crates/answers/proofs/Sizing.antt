@@ -10,10 +10,11 @@ use Rattle.entries.specs.Parts.{at}
 use Rattle.contract_file.specs.declared.files.File.{File}
 use Rattle.openings.specs.declared.shapes.Shape.{Shape}
 use Rattle.openings.specs.Clauses.{body_at}
-use Rattle.openings.specs.Shapes.{lost_shape, Known, KnownCalls}
+use Rattle.openings.specs.Shapes.{size, lost_shape, Known, KnownCalls}
 use Rattle.openings.specs.Rounds.{of, entry_shape, clause_shape, Passed, Called}
+use Rattle.openings.proofs.Shaping.{size_is}
 use Rattle.openings.proofs.Unfolding.{Leading, unfolds_to}
-use Rattle.openings.proofs.Opened.{none_known, pass_more, calls_none, calls_more, all_known}
+use Rattle.openings.proofs.Opened.{none_known, none_told, pass_more, calls_none, calls_more, all_known}
 use Rattle.answers.specs.Approving.{contract_opened}
 use Rattle.answers.specs.Computed.{shapes_on, shapes_by, called, call_shapes, size_test}
 use Rattle.answers.proofs.Deciding.{decides_leb}
@@ -35,12 +36,12 @@ module _ (f : File) (up : Leading f) (past : (i : ℕ) → f.count < i → at f.
   unfolding shapes_by
   all_passed calls = passed_on calls (suc f.count) (replicate 257 lost_shape) (omega (arith, up.few)) (none_passed calls)
 
-  all_called : (s : List Shape) → Called f s 17 (called f s)
-  all_called s = record { long = refl; named = named; none = refl; past = λ k h. get_or_past (called f s) k lost_shape h }
+  all_called : (calls s : List Shape) → Passed f calls 0 s → Called f s (called f s)
+  all_called calls s passed = record { named = named; past = λ k h. get_or_past (called f s) k lost_shape h }
     where
-      named : (k : ℕ) → 0 < k → k < 17 → of (called f s) k ≡ of s (body_at f k)
-      named zero some lt = absurd (omega arith)
-      named (suc k) some lt = get_or-map-range_with_len (λ j. of s (body_at f j)) 1 16 k (suc k) lost_shape (omega arith) (omega arith)
+      named : (k : ℕ) → k < 17 → of (called f s) k ≡ of s (body_at f k)
+      named zero lt = sym (none_told f up calls s passed)
+      named (suc k) lt = get_or-map-range_with_len (λ j. of s (body_at f j)) 1 16 k (suc k) lost_shape (omega arith) (omega arith)
 
   -- the rounds
   calls_known : (n : ℕ) → KnownCalls f n (call_shapes f n)
@@ -50,12 +51,12 @@ module _ (f : File) (up : Leading f) (past : (i : ℕ) → f.count < i → at f.
       let calls = call_shapes f n in
       let s = shapes_by f calls in
       subst (λ (m : ℕ). KnownCalls f m (call_shapes f (suc n))) (add-one n)
-      (calls_more f n calls s (call_shapes f (suc n)) (calls_known n) (all_passed calls) (all_called s))
+      (calls_more f up n calls s (call_shapes f (suc n)) (calls_known n) (all_passed calls) (all_called calls s (all_passed calls)))
 
   shapes_known : Known f (shapes_by f (call_shapes f 17))
   shapes_known = all_known f 17 (call_shapes f 17) (shapes_by f (call_shapes f 17)) refl (calls_known 17) (all_passed (call_shapes f 17))
 
   pub decides_size : (day : ℕ) → Decides (size_test f) (nodes (contract_opened f day) ≤ 256)
   decides_size day =
-      let told : (of (shapes_by f (call_shapes f 17)) f.contract).size ≡ min (nodes (contract_opened f day)) 257 = ap (λ (x : Shape). x.size) (shapes_known f.contract zeros day) in
-      Decides-like _ (λ h. omega arith) (λ h. omega arith) (decides_leb (of (shapes_by f (call_shapes f 17)) f.contract).size 256)
+      let told : size (of (shapes_by f (call_shapes f 17)) f.contract) ≡ min (nodes (contract_opened f day)) 257 = ap size (shapes_known f.contract zeros day) ∙ size_is _ in
+      Decides-like _ (λ h. omega arith) (λ h. omega arith) (decides_leb (size (of (shapes_by f (call_shapes f 17)) f.contract)) 256)

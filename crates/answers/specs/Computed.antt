@@ -22,7 +22,7 @@ use Rattle.contract_file.specs.Reach.{onward}
 use Rattle.contract_file.specs.Pass.{lowered, begun}
 use Rattle.openings.specs.declared.shapes.Shape.{Shape}
 use Rattle.openings.specs.Clauses.{body_at}
-use Rattle.openings.specs.Shapes.{lost_shape}
+use Rattle.openings.specs.Shapes.{size, lost_shape}
 use Rattle.openings.specs.Rounds.{of, entry_shape}
 
 -- 1: a head of eight bytes, and 1 to 256 entries of sixteen
@@ -203,7 +203,7 @@ call_shapes f (suc n) = called f (shapes_by f (call_shapes f n))
 
 -- bare calls name lower templates, so seventeen deep is enough
 abbrev pub size_test : File → Bool
-size_test f = nat_le (of (shapes_by f (call_shapes f 17)) f.contract).size 256
+size_test f = nat_le (size (of (shapes_by f (call_shapes f 17)) f.contract)) 256
 
 -- asked of the whole: the fault, if the test fails
 abbrev pub unless : Bool → Fault → Option Fault

@@ -8,10 +8,7 @@ ghost use Rattle.answers.specs.Approving.{Admitted, Conditions, approving};
 use contract_file::{Fault, File, PLACES, ReadFile};
 use entries::Entry;
 use kinds::{Kind, LAST_DAY};
-use openings::{Shape, openings, shape_at};
-
-/// The most nodes that a term has.
-pub const MOST_NODES: u16 = 256;
+use openings::{MOST_NODES, Shape, openings, shape_at};
 
 /// Is this no condition, or one that the kind admits?
 fn admitted<K: Kind>(kind: &K, this: Entry) -> bool
@@ -49,7 +46,7 @@ pub fn approve<K: Kind>(read: &ReadFile, kind: &K, day: u32) -> Result<[Shape; P
     }
     ask_conditions(file, kind)?;
     let openings = openings(read);
-    if shape_at(&openings, file.contract as usize).size > MOST_NODES {
+    if usize::from(shape_at(&openings, usize::from(file.contract)).size()) > MOST_NODES {
         return Err(Fault::Size);
     }
     if day > LAST_DAY {

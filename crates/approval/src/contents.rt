@@ -48,6 +48,6 @@ impl Checked {
         ensures { result ≡ nodes (contract_opened self.now.read.file self.now.day) }
     {
         let contract = self.file().contract;
-        shape_at(&self.openings, contract as usize).size
+        shape_at(&self.openings, usize::from(contract)).size()
     }
 }

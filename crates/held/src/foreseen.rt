@@ -73,6 +73,6 @@ impl Foreseen {
         ensures { result ≡ nodes (contract_opened self.now.openings.read.file self.now.day) }
     {
         let contract = self.file().contract;
-        self.openings.at(contract).size
+        self.openings.at(contract).size()
     }
 }

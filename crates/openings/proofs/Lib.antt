@@ -3,3 +3,4 @@ pub mod Shaping
 pub mod Unfolding
 pub mod Guarding
 pub mod Opened
+pub mod Indexed

@@ -10,14 +10,15 @@ use Rattle.language.specs.Terms.{Term, open_with, open_call, opened}
 use Rattle.entries.specs.declared.entries.Entry.{Entry}
 use Rattle.entries.specs.declared.entries.Entry.TheVariants as entries
 use Rattle.contract_file.specs.declared.files.File.{File}
+use Rattle.contract_file.specs.Chains as chains
 use Rattle.contract_file.specs.Pointing.{EntryLeads}
 use Rattle.entries.specs.Parts.{at}
 use Rattle.openings.specs.declared.shapes.Shape.{Shape}
-use Rattle.openings.specs.Clauses.{clause_by, clause_at, templates_of, body_at}
+use Rattle.openings.specs.Clauses.{clause_by, clause_at, templates_of, body_of, body_at}
 use Rattle.openings.specs.Shapes.{shape_of, lost_shape, choice_shape, both_shape, then_shape, Known, KnownCalls, openings_of}
 use Rattle.openings.specs.Rounds.{of, entry_shape, clause_shape, Passed, Called}
 use Rattle.openings.proofs.Shaping.{choice_shape_is, both_shape_is, then_shape_is}
-use Rattle.openings.proofs.Unfolding.{Leading, leads_at, unfolds, unfolds_past, body_is, body_past, sixteen}
+use Rattle.openings.proofs.Unfolding.{Leading, leads_at, unfolds, unfolds_none, unfolds_past, body_is, body_past, sixteen}
 
 pub none_known : (n k : ℕ) → of (replicate n lost_shape) k ≡ lost_shape
 none_known n k = elim (dec_le n k) [
@@ -33,14 +34,6 @@ none_known n k = elim (dec_le n k) [
 
 pub all_lost : (n : ℕ) (x : Shape) → x ≡ lost_shape → (k : ℕ) → of (replicate n x) k ≡ lost_shape
 all_lost n x e k = ap (λ y. of (replicate n y) k) e ∙ none_known n k
-
-pub called_none : (f : File) (s : List Shape) (x : Shape) → x ≡ lost_shape → Called f s 1 (replicate 17 x)
-called_none f s x e = record {
-  long = simp length-replicate;
-  named = λ k h i. absurd (omega arith);
-  none = all_lost 17 x e 0;
-  past = λ k h. all_lost 17 x e k;
-}
 
 -- one entry of a pass
 module _ (f : File) (up : Leading f) (calls : List Shape) where
@@ -77,6 +70,14 @@ module _ (f : File) (up : Leading f) (calls : List Shape) where
   pub pass_none : (i : ℕ) → 257 ≤ i → clause_shape calls (clause_at f i) ≡ lost_shape
   pass_none i h = ap (clause_shape calls) (unfolds_past f up i h)
 
+  -- no template has the number 0
+  nowhere : body_at f 0 ≡ 0
+  unfolding chains.chain
+  nowhere = ap body_of up.nowhere
+
+  pub none_told : (s : List Shape) → Passed f calls 0 s → of s (body_at f 0) ≡ lost_shape
+  none_told s passed = passed.1 (body_at f 0) (omega arith) ∙ ap (clause_shape calls) (ap (clause_at f) nowhere ∙ unfolds_none f up)
+
 -- a clause opened has the shape told
 module _ (calls : List Shape) (by : ℕ → Row → ℕ → Term) (known : (k : ℕ) (row : Row) (base : ℕ) → of calls k ≡ shape_of (by k row base)) where
   pub shape_opened : (c : Clause) (row : Row) (base : ℕ) → clause_shape calls c ≡ shape_of (open_with by c row base)
@@ -95,7 +96,7 @@ module _ (f : File) where
   calls_none calls h k row base = h k
 
   -- one round more
-  module _ (n : ℕ) (calls s calls' : List Shape) (known : KnownCalls f n calls) (passed : Passed f calls 0 s) (called : Called f s 17 calls') (row : Row) (base : ℕ) where
+  module _ (up : Leading f) (n : ℕ) (calls s calls' : List Shape) (known : KnownCalls f n calls) (passed : Passed f calls 0 s) (called : Called f s calls') (row : Row) (base : ℕ) where
     abbrev Opens : ℕ → Type 0
     Opens k = of calls' k ≡ shape_of (open_with (open_call (templates_of f) n) (body (templates_of f) k) row base)
 
@@ -103,21 +104,21 @@ module _ (f : File) where
     same_body k c e = shape_opened calls (open_call (templates_of f) n) known c row base ∙ sym (ap (λ x. shape_of (open_with (open_call (templates_of f) n) x row base)) e)
 
     named : (k : ℕ) → 0 < k → k ≤ 16 → Opens k
-    named k h i = called.named k h (omega arith) ∙ passed.1 (body_at f k) (omega arith) ∙ same_body k (clause_at f (body_at f k)) (body_is f k h i)
+    named k h i = called.named k (omega arith) ∙ passed.1 (body_at f k) (omega arith) ∙ same_body k (clause_at f (body_at f k)) (body_is f k h i)
 
     past : (k : ℕ) → 16 < k → Opens k
     past k h = called.past k (omega arith) ∙ same_body k lost (body_past f k h)
 
     first : Opens 0
-    first = called.none ∙ same_body 0 lost refl
+    first = called.named 0 (omega arith) ∙ none_told f up calls s passed ∙ same_body 0 lost refl
 
     all : (k : ℕ) → Opens k
     all zero = first
     all (suc k) = elim (dec_le (suc k) 16) [ yes h ↦ named (suc k) (omega arith) h | no h ↦ past (suc k) (omega arith) ]
 
-  pub calls_more : (n : ℕ) (calls s calls' : List Shape) → KnownCalls f n calls → Passed f calls 0 s → Called f s 17 calls' → KnownCalls f (n + 1) calls'
+  pub calls_more : Leading f → (n : ℕ) (calls s calls' : List Shape) → KnownCalls f n calls → Passed f calls 0 s → Called f s calls' → KnownCalls f (n + 1) calls'
   unfolding open_call
-  calls_more n calls s calls' known passed called k row base = rw (add-one n) (all n calls s calls' known passed called row base k)
+  calls_more up n calls s calls' known passed called k row base = rw (add-one n) (all up n calls s calls' known passed called row base k)
 
   pub all_known : (n : ℕ) (calls s : List Shape) → n ≡ 17 → KnownCalls f n calls → Passed f calls 0 s → Known f s
   unfolding opened
@@ -130,21 +131,3 @@ module _ (f : File) where
   pub all_told : (s : List Shape) → length s ≡ 257 → Known f s → s ≡ openings_of f
   unfolding openings_of
   all_told s long known = fill_by_all _ s 257 lost_shape long (λ i _. known i zeros 0)
-
-  -- one template more
-  pub called_more : (s calls : List Shape) (k : ℕ) (x : Shape) → 0 < k → k < 17 → Called f s k calls → x ≡ of s (body_at f k) → Called f s (k + 1) (set calls k x)
-  called_more s calls k x some small c is =
-      let inside : k < length calls = omega (arith, c.long) in
-      record {
-        long = simp length-set c.long;
-        named = λ j h i. elim (dec_le k j) [
-          | yes g ↦ (let e : j ≡ k = omega arith in
-              let here : get_or (set calls k x) k lost_shape ≡ x = rw get_or-set_same in
-              ap (of (set calls k x)) e ∙ here ∙ is ∙ sym (ap (λ q. of s (body_at f q)) e))
-          | no g ↦ (let ne : j ≢ k = omega arith in
-              let there : get_or (set calls k x) j lost_shape ≡ get_or calls j lost_shape = rw get_or-set_other in
-              there ∙ c.named j h (omega arith))
-        ];
-        none = (let ne : 0 ≢ k = omega arith in let there : get_or (set calls k x) 0 lost_shape ≡ get_or calls 0 lost_shape = rw get_or-set_other in there ∙ c.none);
-        past = λ j h. (let ne : j ≢ k = omega arith in let there : get_or (set calls k x) j lost_shape ≡ get_or calls j lost_shape = rw get_or-set_other in there ∙ c.past j (omega arith));
-      }

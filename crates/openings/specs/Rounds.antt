@@ -37,9 +37,7 @@ clause_shape calls (call k args) = of calls k
 abbrev pub Passed : File → List Shape → ℕ → List Shape → Type 0
 Passed f calls from s = (length s ≡ 257) × ((i : ℕ) → from ≤ i → of s i ≡ clause_shape calls (clause_at f i))
 
--- The table tells what each template below `to` opens to, and the others are lost.
-pub record Called (f : File) (s : List Shape) (to : ℕ) (calls : List Shape) : Type 0 where
-  pub long : length calls ≡ 17
-  pub named : (k : ℕ) → 0 < k → k < to → of calls k ≡ of s (body_at f k)
-  pub none : of calls 0 ≡ lost_shape
-  pub past : (k : ℕ) → to ≤ k → of calls k ≡ lost_shape
+-- The table tells what each template opens to. There are sixteen, and none has the number 0.
+pub record Called (f : File) (s : List Shape) (calls : List Shape) : Type 0 where
+  pub named : (k : ℕ) → k < 17 → of calls k ≡ of s (body_at f k)
+  pub past : (k : ℕ) → 17 ≤ k → of calls k ≡ lost_shape

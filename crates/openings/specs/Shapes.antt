@@ -1,45 +1,67 @@
 -- What a term comes to: its size held at 257, whether it is lost or done, and whether it may end. Assumes nothing.
-use Rattle.std.specs.Prelude.{◌≡◌, ℕ, ◌+◌, min, true, false, cond, ◌&&◌, ◌||◌, List, map, slice_index_or}
+use Rattle.std.specs.Prelude.{◌≡◌, ℕ, ◌+◌, min, Bool, true, false, cond, ◌&&◌, ◌||◌, List, map, slice_index_or}
 use Rattle.std.specs.List.{range_with_len}
 use Rattle.kinds.specs.Rows.{Row, zeros}
 use Rattle.language.specs.Terms.{Term, nodes, is_lost, is_done, may_end, open_call, opened}
 use Rattle.contract_file.specs.declared.files.File.{File}
 use Rattle.openings.specs.declared.shapes.Shape.{Shape}
+use Rattle.openings.specs.declared.shapes.Shape.TheVariants.{Lost, Done, Open}
 use Rattle.openings.specs.Clauses.{clause_at, templates_of}
 
 abbrev pub shape_of : Term → Shape
-shape_of t = record { size = min (nodes t) 257; lost = is_lost t; done = is_done t; ends = may_end t }
+shape_of t = cond (is_lost t) Lost (cond (is_done t) Done (Open (min (nodes t) 257) (may_end t)))
+
+-- what a shape tells
+abbrev pub size : Shape → ℕ
+size Lost = 1
+size Done = 1
+size (Open n e) = n
+
+abbrev pub lost : Shape → Bool
+lost Lost = true
+lost Done = false
+lost (Open n e) = false
+
+abbrev pub done : Shape → Bool
+done Lost = false
+done Done = true
+done (Open n e) = false
+
+abbrev pub ends : Shape → Bool
+ends Lost = false
+ends Done = true
+ends (Open n e) = e
 
 abbrev pub lost_shape : Shape
-lost_shape = record { size = 1; lost = true; done = false; ends = false }
+lost_shape = Lost
 
 abbrev pub done_shape : Shape
-done_shape = record { size = 1; lost = false; done = true; ends = true }
+done_shape = Done
 
 abbrev pub leaf_shape : Shape
-leaf_shape = record { size = 1; lost = false; done = false; ends = false }
+leaf_shape = Open 1 false
 
 abbrev pub choice_node : Shape → Shape → Shape
-choice_node l r = record { size = min (1 + l.size + r.size) 257; lost = false; done = false; ends = l.ends || r.ends }
+choice_node l r = Open (min (1 + size l + size r) 257) (ends l || ends r)
 
 abbrev pub both_node : Shape → Shape → Shape
-both_node l r = record { size = min (1 + l.size + r.size) 257; lost = false; done = false; ends = l.ends && r.ends }
+both_node l r = Open (min (1 + size l + size r) 257) (ends l && ends r)
 
 abbrev pub follow_node : Shape → Shape
-follow_node t = record { size = min (1 + t.size) 257; lost = false; done = false; ends = false }
+follow_node t = Open (min (1 + size t) 257) false
 
 -- tidied, as terms are
 abbrev pub choice_shape : Shape → Shape → Shape
-choice_shape l r = cond l.lost r (cond r.lost l (choice_node l r))
+choice_shape l r = cond (lost l) r (cond (lost r) l (choice_node l r))
 
 abbrev pub both_shape : Shape → Shape → Shape
-both_shape l r = cond (l.lost || r.lost) lost_shape (cond l.done r (cond r.done l (both_node l r)))
+both_shape l r = cond (lost l || lost r) lost_shape (cond (done l) r (cond (done r) l (both_node l r)))
 
 abbrev pub follow_shape : Shape → Shape
-follow_shape t = cond (t.done || t.lost) lost_shape (follow_node t)
+follow_shape t = cond (done t || lost t) lost_shape (follow_node t)
 
 abbrev pub then_shape : Shape → Shape → Shape
-then_shape t o = cond t.ends (choice_shape (follow_shape t) o) (follow_shape t)
+then_shape t o = cond (ends t) (choice_shape (follow_shape t) o) (follow_shape t)
 
 -- What the file's entries open to, from zeros on day 0; place 0 is no entry's.
 unfoldable pub openings_of : File → List Shape

@@ -53,6 +53,6 @@ impl Openings {
     pub fn at(&self, number: u16) -> Shape
         ensures same { result ≡ of self.now.shapes number }
     {
-        shape_at(&self.shapes, number as usize)
+        shape_at(&self.shapes, usize::from(number))
     }
 }

@@ -1,6 +1,5 @@
 //! What each entry of a file opens to, by rounds: a round opens calls one deeper.
 ghost use Rattle.std.specs.Prelude.{◌≡◌};
-ghost use Rattle.contract_file.specs.Sound.{Sound};
 ghost use Rattle.language.specs.Terms.{Guarded};
 ghost use Rattle.openings.specs.Clauses.{body_of, body_at, templates_of};
 ghost use Rattle.openings.specs.Shapes.{Known, openings_of};
@@ -9,6 +8,7 @@ ghost use Rattle.openings.specs.Rounds.{entry_shape, Passed, Called};
 use crate::shapes::{Shape, shape_at};
 use contract_file::{File, MOST_TEMPLATES, PLACES, ReadFile, template_at};
 use entries::Entry;
+use std::array;
 
 /// A place for each template at its number; place 0 is no template's.
 const TEMPLATES: usize = MOST_TEMPLATES + 1;
@@ -35,72 +35,56 @@ fn entry_shape(entry: Entry, shapes: &[Shape; PLACES], calls: &[Shape; TEMPLATES
     ensures { result ≡ entry_shape shapes.now calls.now «entry» }
 {
     match entry {
-        Entry::Done => Shape::done(),
+        Entry::Done => Shape::Done,
         Entry::Step { .. } => Shape::leaf(),
         Entry::Choice { left, right } => Shape::choice_of(
-            shape_at(shapes, left as usize),
-            shape_at(shapes, right as usize),
+            shape_at(shapes, usize::from(left)),
+            shape_at(shapes, usize::from(right)),
         ),
         Entry::Both { left, right } => Shape::both_of(
-            shape_at(shapes, left as usize),
-            shape_at(shapes, right as usize),
+            shape_at(shapes, usize::from(left)),
+            shape_at(shapes, usize::from(right)),
         ),
         Entry::Then { left, right } => Shape::then_of(
-            shape_at(shapes, left as usize),
-            shape_at(shapes, right as usize),
+            shape_at(shapes, usize::from(left)),
+            shape_at(shapes, usize::from(right)),
         ),
-        Entry::Call { template, .. } => shape_at(calls, template as usize),
+        Entry::Call { template, .. } => shape_at(calls, usize::from(template)),
         Entry::Lost | Entry::Template { .. } | Entry::Condition { .. } | Entry::Argument { .. } =>
-            Shape::lost(),
+            Shape::Lost,
     }
 }
 
 /// What each entry opens to, from the last to the first, where calls open as given.
-fn pass(file: &File, calls: &[Shape; TEMPLATES]) -> [Shape; PLACES]
-    requires { Sound file.now }
-    ensures { Passed file.now calls.now 0 result }
+fn pass(read: &ReadFile, calls: &[Shape; TEMPLATES]) -> [Shape; PLACES]
+    ensures { Passed read.now.file calls.now 0 result }
 {
-    let lost = Shape::lost();
-    let mut shapes = [lost; PLACES];
-    for at in (0..PLACES).rev() {
-        shapes[at] = entry_shape(file.at(at as u16), &shapes, calls);
+    let entries = &read.file().entries;
+    let mut shapes = [Shape::Lost; PLACES];
+    for place in (0..PLACES).rev() {
+        shapes[place] = entry_shape(entries[place], &shapes, calls);
     }
     shapes
 }
 
 /// What the templates open to, by what the entries do.
 fn called(file: &File, shapes: &[Shape; PLACES]) -> [Shape; TEMPLATES]
-    ensures { Called file.now shapes.now 17 result }
+    ensures { Called file.now shapes.now result }
 {
-    let lost = Shape::lost();
-    let mut calls = [lost; TEMPLATES];
-    for k in 1..TEMPLATES {
-        calls[k] = shape_at(shapes, body(file, k as u8) as usize);
-    }
-    calls
-}
-
-/// The rounds. Bare calls name lower templates, so seventeen reach the bottom.
-fn rounds(file: &File) -> [Shape; PLACES]
-    requires { Sound file.now }
-    ensures value { result ≡ openings_of file.now }
-    ensures known { Known file.now result }
-{
-    let lost = Shape::lost();
-    let mut calls = [lost; TEMPLATES];
-    for _ in 0..TEMPLATES {
-        let shapes = pass(file, &calls);
-        calls = called(file, &shapes);
-    }
-    pass(file, &calls)
+    array::from_fn(|number| shape_at(shapes, usize::from(body(file, number as u8))))
 }
 
 /// What each entry of a file opens to, at its number: known once for each, whatever the row and the day.
-/// Each bare call in a template of the file names a lower one, so that opening comes to an end.
+/// Each bare call in a template of the file names a lower one, so that opening comes to an end: seventeen rounds reach the bottom.
 pub fn openings(read: &ReadFile) -> [Shape; PLACES]
     ensures value { result ≡ openings_of read.now.file }
     ensures known { Known read.now.file result }
     ensures guarded { Guarded (templates_of read.now.file) }
 {
-    rounds(read.file())
+    let mut calls = [Shape::Lost; TEMPLATES];
+    for _ in 0..TEMPLATES {
+        let shapes = pass(read, &calls);
+        calls = called(read.file(), &shapes);
+    }
+    pass(read, &calls)
 }

@@ -1,7 +1,7 @@
 //! What a term comes to, without its nodes: enough to tidy by and to count.
-ghost use Rattle.std.specs.Prelude.{◌≡◌};
+ghost use Rattle.std.specs.Prelude.{◌≡◌, ◌+◌, min};
 ghost use Rattle.openings.specs.Rounds.{of};
-ghost use Rattle.openings.specs.Shapes.{lost_shape, done_shape, leaf_shape, choice_node, both_node, follow_node, choice_shape, both_shape, follow_shape, then_shape};
+ghost use Rattle.openings.specs.Shapes.{size, ends, leaf_shape, choice_node, both_node, follow_node, choice_shape, both_shape, follow_shape, then_shape};
 
 /// The most nodes that a term may have.
 pub const MOST_NODES: usize = 256;
@@ -9,46 +9,46 @@ pub const MOST_NODES: usize = 256;
 /// Sizes are held at this: one node more than a term may have.
 const FULL: u16 = MOST_NODES as u16 + 1;
 
-/// How many nodes a term has, held at 257, whether it is lost or done, and whether it may end.
-#[derive(Clone, Copy)]
-pub struct Shape {
-    pub size: u16,
-    pub lost: bool,
-    pub done: bool,
-    pub ends: bool,
+/// What a term comes to.
+#[derive(Clone, Copy, Debug, PartialEq, Eq)]
+pub enum Shape {
+    /// No records can perform it any more.
+    Lost,
+    /// Nothing is left to do.
+    Done,
+    /// Any other term: how many nodes it has, held at 257, and whether it may end as it stands.
+    Open { size: u16, ends: bool },
 }
 
 impl Shape {
-    pub fn lost() -> Shape
-        ensures { result ≡ lost_shape }
-    {
-        Shape {
-            size: 1,
-            lost: true,
-            done: false,
-            ends: false,
-        }
-    }
-
-    pub fn done() -> Shape
-        ensures { result ≡ done_shape }
-    {
-        Shape {
-            size: 1,
-            lost: false,
-            done: true,
-            ends: true,
-        }
-    }
-
+    /// A step that is waited for.
     pub fn leaf() -> Shape
         ensures { result ≡ leaf_shape }
     {
-        Shape {
+        Shape::Open {
             size: 1,
-            lost: false,
-            done: false,
             ends: false,
+        }
+    }
+
+    /// How many nodes the term has, held at 257.
+    pub fn size(self) -> u16
+        ensures { result ≡ size self }
+    {
+        match self {
+            Shape::Lost | Shape::Done => 1,
+            Shape::Open { size, .. } => size,
+        }
+    }
+
+    /// May the term end as it stands?
+    pub fn ends(self) -> bool
+        ensures { result ≡ ends self }
+    {
+        match self {
+            Shape::Lost => false,
+            Shape::Done => true,
+            Shape::Open { ends, .. } => ends,
         }
     }
 
@@ -56,11 +56,9 @@ impl Shape {
     pub fn choice_node(l: Shape, r: Shape) -> Shape
         ensures { result ≡ choice_node l r }
     {
-        Shape {
-            size: l.size.saturating_add(r.size).saturating_add(1).min(FULL),
-            lost: false,
-            done: false,
-            ends: l.ends | r.ends,
+        Shape::Open {
+            size: over(l.size().saturating_add(r.size())),
+            ends: l.ends() || r.ends(),
         }
     }
 
@@ -68,11 +66,9 @@ impl Shape {
     pub fn both_node(l: Shape, r: Shape) -> Shape
         ensures { result ≡ both_node l r }
     {
-        Shape {
-            size: l.size.saturating_add(r.size).saturating_add(1).min(FULL),
-            lost: false,
-            done: false,
-            ends: l.ends & r.ends,
+        Shape::Open {
+            size: over(l.size().saturating_add(r.size())),
+            ends: l.ends() && r.ends(),
         }
     }
 
@@ -80,10 +76,8 @@ impl Shape {
     pub fn follow_node(t: Shape) -> Shape
         ensures { result ≡ follow_node t }
     {
-        Shape {
-            size: t.size.saturating_add(1).min(FULL),
-            lost: false,
-            done: false,
+        Shape::Open {
+            size: over(t.size()),
             ends: false,
         }
     }
@@ -92,12 +86,9 @@ impl Shape {
     pub fn choice_of(l: Shape, r: Shape) -> Shape
         ensures { result ≡ choice_shape l r }
     {
-        if l.lost {
-            r
-        } else if r.lost {
-            l
-        } else {
-            Shape::choice_node(l, r)
+        match (l, r) {
+            (Shape::Lost, other) | (other, Shape::Lost) => other,
+            _ => Shape::choice_node(l, r),
         }
     }
 
@@ -105,14 +96,10 @@ impl Shape {
     pub fn both_of(l: Shape, r: Shape) -> Shape
         ensures { result ≡ both_shape l r }
     {
-        if l.lost | r.lost {
-            Shape::lost()
-        } else if l.done {
-            r
-        } else if r.done {
-            l
-        } else {
-            Shape::both_node(l, r)
+        match (l, r) {
+            (Shape::Lost, _) | (_, Shape::Lost) => Shape::Lost,
+            (Shape::Done, other) | (other, Shape::Done) => other,
+            _ => Shape::both_node(l, r),
         }
     }
 
@@ -120,10 +107,9 @@ impl Shape {
     pub fn follow_of(t: Shape) -> Shape
         ensures { result ≡ follow_shape t }
     {
-        if t.done | t.lost {
-            Shape::lost()
-        } else {
-            Shape::follow_node(t)
+        match t {
+            Shape::Lost | Shape::Done => Shape::Lost,
+            Shape::Open { .. } => Shape::follow_node(t),
         }
     }
 
@@ -131,21 +117,25 @@ impl Shape {
     pub fn then_of(t: Shape, o: Shape) -> Shape
         ensures { result ≡ then_shape t o }
     {
-        if t.ends {
-            Shape::choice_of(Shape::follow_of(t), o)
+        let follow = Shape::follow_of(t);
+        if t.ends() {
+            Shape::choice_of(follow, o)
         } else {
-            Shape::follow_of(t)
+            follow
         }
     }
+}
+
+/// The size of a node over parts of so many nodes.
+fn over(parts: u16) -> u16
+    ensures { result ≡ min (1 + parts) 257 }
+{
+    parts.saturating_add(1).min(FULL)
 }
 
 /// What stands at a place of a table, and lost past its end.
 pub fn shape_at(shapes: &[Shape], place: usize) -> Shape
     ensures { result ≡ of shapes.now place }
 {
-    if place < shapes.len() {
-        shapes[place]
-    } else {
-        Shape::lost()
-    }
+    shapes.get(place).copied().unwrap_or(Shape::Lost)
 }

@@ -17,8 +17,9 @@ use Rattle.days.specs.Windows.{meant}
 use Rattle.openings.specs.declared.known.Openings.{Openings}
 use Rattle.openings.specs.declared.shapes.Shape.{Shape}
 use Rattle.openings.specs.Clauses.{conditions_at, arguments_at, clause_by, clause_at, templates_of}
-use Rattle.openings.specs.Shapes.{Known}
+use Rattle.openings.specs.Shapes.{Known, size, lost, done, ends}
 use Rattle.openings.specs.Rounds.{of}
+use Rattle.openings.proofs.Shaping as shaping
 use Rattle.openings.proofs.Unfolding as unfolding-laws
 use Rattle.openings.proofs.Guarding.{guarded}
 use Rattle.openings.proofs.Facts.{known_openings}
@@ -61,50 +62,50 @@ module _ (f : File) (level i : ℕ) (row : Row) (base : ℕ) where
   Planned (plan.Call k a) = Called k a
 
   module _ (shapes : List Shape) (sound : Sound f) (known : Known f shapes) where
-    lost_is : (e : ℕ) (b : Bool) → (of shapes e).lost ≡ b → is_lost (opens f row base e) ≡ b
-    lost_is e b q = sym (ap (λ s. s.lost) (known e row base)) ∙ q
+    lost_is : (e : ℕ) (b : Bool) → lost (of shapes e) ≡ b → is_lost (opens f row base e) ≡ b
+    lost_is e b q = sym (shaping.lost_is (opens f row base e)) ∙ sym (ap lost (known e row base)) ∙ q
 
-    done_is : (e : ℕ) (b : Bool) → (of shapes e).done ≡ b → is_done (opens f row base e) ≡ b
-    done_is e b q = sym (ap (λ s. s.done) (known e row base)) ∙ q
+    done_is : (e : ℕ) (b : Bool) → done (of shapes e) ≡ b → is_done (opens f row base e) ≡ b
+    done_is e b q = sym (shaping.done_is (opens f row base e)) ∙ sym (ap done (known e row base)) ∙ q
 
-    ends_is : (e : ℕ) (b : Bool) → (of shapes e).ends ≡ b → may_end (opens f row base e) ≡ b
-    ends_is e b q = sym (ap (λ s. s.ends) (known e row base)) ∙ q
+    ends_is : (e : ℕ) (b : Bool) → ends (of shapes e) ≡ b → may_end (opens f row base e) ≡ b
+    ends_is e b q = sym (shaping.ends_is (opens f row base e)) ∙ sym (ap ends (known e row base)) ∙ q
 
-    either_lost : (l r : ℕ) (b : Bool) → ((of shapes l).lost || (of shapes r).lost) ≡ b → (is_lost (opens f row base l) || is_lost (opens f row base r)) ≡ b
+    either_lost : (l r : ℕ) (b : Bool) → (lost (of shapes l) || lost (of shapes r)) ≡ b → (is_lost (opens f row base l) || is_lost (opens f row base r)) ≡ b
     either_lost l r b q = rw (lost_is l _ refl, lost_is r _ refl) q
 
-    empty_is : (e : ℕ) (b : Bool) → ((of shapes e).done || (of shapes e).lost) ≡ b → (is_done (opens f row base e) || is_lost (opens f row base e)) ≡ b
+    empty_is : (e : ℕ) (b : Bool) → (done (of shapes e) || lost (of shapes e)) ≡ b → (is_done (opens f row base e) || is_lost (opens f row base e)) ≡ b
     empty_is e b q = rw (done_is e _ refl, lost_is e _ refl) q
 
     -- the sides of an entry that has two
     module _ (l r : ℕ) where
       choice_planned : opens f row base i ≡ choice_of (opens f row base l) (opens f row base r) → Next l → Next r → Planned (choice_plan shapes l r)
       choice_planned is nl nr =
-          cond_both (of shapes l).lost _ _ Planned
+          cond_both (lost (of shapes l)) _ _ Planned
           (λ a. (is ∙ tidied.choice_right _ _ (lost_is l true a), nr))
-          (λ a. cond_both (of shapes r).lost _ _ Planned
+          (λ a. cond_both (lost (of shapes r)) _ _ Planned
           (λ b. (is ∙ tidied.choice_left _ _ (lost_is l false a) (lost_is r true b), nl))
           (λ b. (is ∙ tidied.choice_both _ _ (lost_is l false a) (lost_is r false b), nl, nr)))
 
       both_planned : opens f row base i ≡ both_of (opens f row base l) (opens f row base r) → Next l → Next r → Planned (both_plan shapes l r)
       both_planned is nl nr =
-          cond_both ((of shapes l).lost || (of shapes r).lost) _ _ Planned
+          cond_both (lost (of shapes l) || lost (of shapes r)) _ _ Planned
           (λ a. is ∙ tidied.both_lost _ _ (either_lost l r true a))
-          (λ a. cond_both (of shapes l).done _ _ Planned
+          (λ a. cond_both (done (of shapes l)) _ _ Planned
           (λ b. (is ∙ tidied.both_right _ _ (either_lost l r false a) (done_is l true b), nr))
-          (λ b. cond_both (of shapes r).done _ _ Planned
+          (λ b. cond_both (done (of shapes r)) _ _ Planned
           (λ d. (is ∙ tidied.both_left _ _ (either_lost l r false a) (done_is l false b) (done_is r true d), nl))
           (λ d. (is ∙ tidied.both_both _ _ (either_lost l r false a) (done_is l false b) (done_is r false d), nl, nr))))
 
       then_planned : opens f row base i ≡ then_of (opens f row base l) (clause_at f r) row (opens f row base r) → Next l → Next r → Planned (then_plan shapes l r)
       then_planned is nl nr =
-          cond_both (of shapes l).ends _ _ Planned
-          (λ a. cond_both ((of shapes l).done || (of shapes l).lost) _ _ Planned
+          cond_both (ends (of shapes l)) _ _ Planned
+          (λ a. cond_both (done (of shapes l) || lost (of shapes l)) _ _ Planned
           (λ b. (is ∙ tidied.then_open _ _ _ _ (ends_is l true a) (empty_is l true b), nr))
-          (λ b. cond_both (of shapes r).lost _ _ Planned
+          (λ b. cond_both (lost (of shapes r)) _ _ Planned
           (λ d. (is ∙ tidied.then_only _ _ _ _ (ends_is l true a) (empty_is l false b) (lost_is r true d), nl))
           (λ d. (is ∙ tidied.then_skip _ _ _ _ (ends_is l true a) (empty_is l false b) (lost_is r false d), nl, nr))))
-          (λ a. cond_both ((of shapes l).done || (of shapes l).lost) _ _ Planned
+          (λ a. cond_both (done (of shapes l) || lost (of shapes l)) _ _ Planned
           (λ b. is ∙ tidied.then_lost _ _ _ _ (ends_is l false a) (empty_is l true b))
           (λ b. (is ∙ tidied.then_follow _ _ _ _ (ends_is l false a) (empty_is l false b), nl)))
 
@@ -159,9 +160,9 @@ module _ (o : Openings) where
 
   -- the size that is told of the contract
   pub contract_told : (f : File) (s : Shape) → f ≡ o.read.file → s ≡ of o.shapes f.contract → (row : Row) (base : ℕ)
-      → s.size ≡ min (nodes (opens o.read.file row base o.read.file.contract)) 257
+      → size s ≡ min (nodes (opens o.read.file row base o.read.file.contract)) 257
   contract_told f s same is row base =
-      ap (λ x. x.size) (is ∙ ap (λ g. of o.shapes g.contract) same ∙ known_openings _ _ o.known o.read.file.contract row base)
+      ap size (is ∙ ap (λ g. of o.shapes g.contract) same ∙ known_openings _ _ o.known o.read.file.contract row base) ∙ shaping.size_is _
 
   pub plans : (level i : ℕ) (row : Row) (base : ℕ) (p : Plan) → p ≡ plan_by o.shapes (at o.read.file.entries i) → Planned o.read.file level i row base p
   plans level i row base p eq =

@@ -5,22 +5,23 @@ use Rattle.entries.specs.declared.entries.Entry.TheVariants.{Lost, Done, Step, C
 use Rattle.openings.specs.declared.shapes.Shape.{Shape}
 use Rattle.terms.specs.declared.plans.Plan.{Plan}
 use Rattle.terms.specs.declared.plans.Plan.TheVariants as plan
+use Rattle.openings.specs.Shapes.{lost, done, ends}
 use Rattle.openings.specs.Rounds.{of}
 
 -- a choice with a lost side is the other side
 abbrev pub choice_plan : List Shape → ℕ → ℕ → Plan
-choice_plan s l r = cond (of s l).lost (plan.Only r) (cond (of s r).lost (plan.Only l) (plan.Choice l r))
+choice_plan s l r = cond (lost (of s l)) (plan.Only r) (cond (lost (of s r)) (plan.Only l) (plan.Choice l r))
 
 -- a both with a lost side is lost, with a done side the other side
 abbrev pub both_plan : List Shape → ℕ → ℕ → Plan
-both_plan s l r = cond ((of s l).lost || (of s r).lost) plan.Lost (cond (of s l).done (plan.Only r) (cond (of s r).done (plan.Only l) (plan.Both l r)))
+both_plan s l r = cond (lost (of s l) || lost (of s r)) plan.Lost (cond (done (of s l)) (plan.Only r) (cond (done (of s r)) (plan.Only l) (plan.Both l r)))
 
 -- a follow of done or lost is lost; where the left may end, the right is also opened at once
 abbrev pub then_plan : List Shape → ℕ → ℕ → Plan
 then_plan s l r =
-    cond (of s l).ends
-    (cond ((of s l).done || (of s l).lost) (plan.Only r) (cond (of s r).lost (plan.Follow l r) (plan.Skip l r)))
-    (cond ((of s l).done || (of s l).lost) plan.Lost (plan.Follow l r))
+    cond (ends (of s l))
+    (cond (done (of s l) || lost (of s l)) (plan.Only r) (cond (lost (of s r)) (plan.Follow l r) (plan.Skip l r)))
+    (cond (done (of s l) || lost (of s l)) plan.Lost (plan.Follow l r))
 
 -- an entry that is no clause is lost
 abbrev pub plan_by : List Shape → Entry → Plan

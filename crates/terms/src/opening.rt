@@ -80,7 +80,7 @@ fn open_call(openings: &Openings, template: u8, row: &Row, base: u32, out: &mut 
 pub fn open_clause(openings: &Openings, clause: u16, row: &Row, base: u32, out: &mut Table)
     ensures { Writes openings.now.read.file out.old out.new (opened (templates_of openings.now.read.file) (clause_at openings.now.read.file clause) row.now base) }
 {
-    if openings.at(clause).size as usize + out.len as usize <= MOST_NODES {
+    if usize::from(openings.at(clause).size()) + out.len as usize <= MOST_NODES {
         open_from(openings, ABOVE_TEMPLATES, clause, row, base, out);
     }
 }
@@ -90,7 +90,7 @@ pub fn open_contract(openings: &Openings, day: u32, out: &mut Table) -> bool
     ensures { Replaced openings.now.read.file (opened (templates_of openings.now.read.file) (clause_at openings.now.read.file openings.now.read.file.contract) zeros day) out.old out.new result }
 {
     let contract = openings.file().contract;
-    if openings.at(contract).size as usize > MOST_NODES {
+    if usize::from(openings.at(contract).size()) > MOST_NODES {
         return false;
     }
     *out = Table::new();

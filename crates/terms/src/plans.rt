@@ -4,7 +4,7 @@ ghost use Rattle.entries.specs.Parts.{at};
 ghost use Rattle.terms.specs.Plans.{choice_plan, both_plan, then_plan, plan_by};
 
 use entries::Entry;
-use openings::Openings;
+use openings::{Openings, Shape};
 
 /// What is written for an entry. Nothing that tidies away is named.
 #[derive(Clone, Copy)]
@@ -28,12 +28,10 @@ pub enum Plan {
 fn choice_plan(openings: &Openings, left: u16, right: u16) -> Plan
     ensures { result ≡ choice_plan openings.now.shapes left right }
 {
-    if openings.at(left).lost {
-        Plan::Only(right)
-    } else if openings.at(right).lost {
-        Plan::Only(left)
-    } else {
-        Plan::Choice(left, right)
+    match (openings.at(left), openings.at(right)) {
+        (Shape::Lost, _) => Plan::Only(right),
+        (_, Shape::Lost) => Plan::Only(left),
+        _ => Plan::Choice(left, right),
     }
 }
 
@@ -41,16 +39,11 @@ fn choice_plan(openings: &Openings, left: u16, right: u16) -> Plan
 fn both_plan(openings: &Openings, left: u16, right: u16) -> Plan
     ensures { result ≡ both_plan openings.now.shapes left right }
 {
-    let l = openings.at(left);
-    let r = openings.at(right);
-    if l.lost | r.lost {
-        Plan::Lost
-    } else if l.done {
-        Plan::Only(right)
-    } else if r.done {
-        Plan::Only(left)
-    } else {
-        Plan::Both(left, right)
+    match (openings.at(left), openings.at(right)) {
+        (Shape::Lost, _) | (_, Shape::Lost) => Plan::Lost,
+        (Shape::Done, _) => Plan::Only(right),
+        (_, Shape::Done) => Plan::Only(left),
+        _ => Plan::Both(left, right),
     }
 }
 
@@ -58,20 +51,15 @@ fn both_plan(openings: &Openings, left: u16, right: u16) -> Plan
 fn then_plan(openings: &Openings, left: u16, right: u16) -> Plan
     ensures { result ≡ then_plan openings.now.shapes left right }
 {
-    let l = openings.at(left);
-    let empty = l.done | l.lost;
-    if l.ends {
-        if empty {
-            Plan::Only(right)
-        } else if openings.at(right).lost {
-            Plan::Follow(left, right)
-        } else {
+    match (openings.at(left), openings.at(right)) {
+        (Shape::Lost, _) => Plan::Lost,
+        (Shape::Done, _) => Plan::Only(right),
+        (Shape::Open { .. }, Shape::Lost) => Plan::Follow(left, right),
+        (Shape::Open { ends, .. }, _) => if ends {
             Plan::Skip(left, right)
-        }
-    } else if empty {
-        Plan::Lost
-    } else {
-        Plan::Follow(left, right)
+        } else {
+            Plan::Follow(left, right)
+        },
     }
 }
 

@@ -1,11 +1,15 @@
-use Rattle.std.proofs.Common.{sym, refl, ◌∙◌, arith}
-use Rattle.openings.proofs.Opened.{all_lost, pass_none, pass_more}
+use Rattle.std.proofs.Common.{◌-◌, sym, refl, ap, ◌∙◌, arith}
+use Rattle.contract_file.proofs.Facts.{known_sound}
+use Rattle.contract_file.specs.declared.files.File.{File}
+use Rattle.entries.specs.Parts.{at}
+use Rattle.openings.proofs.Opened.{none_known, pass_none, pass_more}
 use Rattle.openings.proofs.Unfolding.{leading}
 use Rattle.openings.proofs.rounds.pass.Goals as goal
 
-pub loop-at-init : goal.loop-at-init
-loop-at-init c = (refl, λ i h. all_lost 257 _ c.lost-lost.ensures i ∙ sym (pass_none c.args.file.now (leading _ c.requires) c.args.calls.now i h))
+pub loop-place-init : goal.loop-place-init
+loop-place-init c = (refl, λ i h. none_known 257 i ∙ sym (pass_none c.args.read.now.file (leading _ (known_sound _ c.args.read.now.sound)) c.args.calls.now i h))
 
-pub loop-at-preserved : goal.loop-at-preserved
-loop-at-preserved c =
-    pass_more c.args.file.now (leading _ c.requires) c.args.calls.now c.loop-at.shapes _ c.loop-at.at c.at.result c.entry_shape.result (omega arith) (omega arith) c.loop-at.invariant c.at.ensures c.entry_shape.ensures
+pub loop-place-preserved : goal.loop-place-preserved
+loop-place-preserved c =
+    pass_more c.args.read.now.file (leading _ (known_sound _ c.args.read.now.sound)) c.args.calls.now c.loop-place.shapes (c.loop-place.place - 1) c.loop-place.place _ c.entry_shape.result
+    (omega arith) (omega arith) c.loop-place.invariant (ap (λ (f : File). at f.entries (c.loop-place.place - 1)) c.file.ensures.same) c.entry_shape.ensures

@@ -1,5 +1,5 @@
 use Rattle.openings.specs.Rounds.{Passed}
 use Rattle.openings.proofs.rounds.pass.Given as goal
 
-abbrev pub invariant-loop-at : goal.invariant-loop-at
-invariant-loop-at l = Passed l.file l.calls l.at l.shapes
+abbrev pub invariant-loop-place : goal.invariant-loop-place
+invariant-loop-place l = Passed l.fn.read.file l.calls l.place l.shapes

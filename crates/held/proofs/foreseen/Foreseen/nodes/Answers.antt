@@ -1,6 +1,6 @@
 use Rattle.std.proofs.Common.{ap, ◌∙◌}
-use Rattle.openings.specs.declared.shapes.Shape.{Shape}
 use Rattle.contract_file.specs.declared.files.File.{File}
+use Rattle.openings.specs.Shapes.{size}
 use Rattle.openings.specs.Rounds.{of}
 use Rattle.openings.proofs.Facts.{known_openings}
 use Rattle.approval.proofs.Sizes.{size_told}
@@ -11,6 +11,6 @@ returns c =
     let self = c.args.self.now in
     let table = self.openings.shapes in
     let file = self.openings.read.file in
-    ap (λ (s : Shape). s.size) c.at.ensures.same
-    ∙ ap (λ (f : File). (of table f.contract).size) c.file.ensures
+    c.size.ensures ∙ ap size c.at.ensures.same
+    ∙ ap (λ (f : File). size (of table f.contract)) c.file.ensures
     ∙ size_told file self.day table (known_openings file table self.openings.known) self.small
