@@ -1,5 +1,6 @@
 -- Rows stay rows: what tests put and what arguments fill in fits 32 bits.
-use Rattle.std.specs.Prelude.{◌≡◌, ℕ, ◌<◌, Bool, true, false, cond, ◌&&◌, ◌≢◌, List, [], ◌∷◌, length, ℤ, pos, negsuc, Some, None, Option, slice_index, slice_set, refl}
+use Rattle.std.specs.Prelude.{◌≡◌, ℕ, ◌<◌, Bool, true, false, cond, ◌≢◌, List, [], ◌∷◌, length, ℤ, pos, negsuc, Some, None, Option, slice_index, slice_set, refl}
+use Rattle.std.specs.List.{AllByRecursion}
 use Rattle.std.proofs.Common.{subst, arith, length-set, get_or-set_same, get_or-set_other, of_z}
 use Rattle.std.proofs.Math.Decide.{dec_le}
 use Rattle.std.specs.Int.{w32}
@@ -12,7 +13,7 @@ use Rattle.kinds.specs.declared.rows.Filling.{Filling}
 use Rattle.kinds.specs.declared.rows.Value.{Value}
 use Rattle.kinds.specs.declared.rows.Value.TheVariants.{Constant, Slot}
 use Rattle.kinds.specs.Rows.{word, signed_word, Row, Fits, zeros, value_of, fill_on, fill, listed_value, ListedArguments}
-use Rattle.kinds.specs.Fields.{passes_if, filled_if, held, at}
+use Rattle.kinds.specs.Fields.{filled_if, all_pass, all_filled, held}
 
 -- 32 bits as a test and as a bound
 pub word_lt : (n : ℕ) → word n ≡ true → n < 4294967296
@@ -52,18 +53,23 @@ filled_fits (Some (Put b)) f row h k = put_fits row b f.bits k h
 filled_fits (Some (AtLeastSlotPlus b u)) f row h k = k
 filled_fits (Some (Near u v)) f row h k = k
 
--- four fields put by their tests
-pub held_fits : (t : List (Option Test)) (row : Row) (a b c d : Field) (row' : Row)
-    → a.bits < 4294967296 → b.bits < 4294967296 → c.bits < 4294967296 → d.bits < 4294967296
-    → Fits row → held t row a b c d ≡ Some row' → Fits row'
-held_fits t row a b c d row' p q r s f e =
-    by (passes_if (at t 0) row a && (passes_if (at t 1) row b && (passes_if (at t 2) row c && passes_if (at t 3) row d))) e
+-- fields whose bits fit 32 bits
+abbrev pub BitsFit : List Field → Type 0
+BitsFit = AllByRecursion (λ f. f.bits < 4294967296)
+
+-- fields put by their tests
+all_filled_fits : (tests : List (Option Test)) (fields : List Field) (row : Row) → BitsFit fields → Fits row → Fits (all_filled tests fields row)
+all_filled_fits [] fields row b f = f
+all_filled_fits (t ∷ tests) [] row b f = f
+all_filled_fits (t ∷ tests) (a ∷ fields) row b f = all_filled_fits tests fields _ b.1 (filled_fits t a row b.0 f)
+
+-- the row that results
+pub held_fits : (tests : List (Option Test)) (row : Row) (fields : List Field) (row' : Row) → BitsFit fields → Fits row → held tests row fields ≡ Some row' → Fits row'
+held_fits tests row fields row' b f e = by (all_pass tests row fields) e
   where
-    by : (x : Bool) → cond x (Some (filled_if (at t 3) d (filled_if (at t 2) c (filled_if (at t 1) b (filled_if (at t 0) a row))))) None ≡ Some row' → Fits row'
-    by true e =
-        let is : filled_if (at t 3) d (filled_if (at t 2) c (filled_if (at t 1) b (filled_if (at t 0) a row))) ≡ row' = cc in
-        subst Fits is (filled_fits (at t 3) d _ s (filled_fits (at t 2) c _ r (filled_fits (at t 1) b _ q (filled_fits (at t 0) a row p f))))
-    by false e = let z : ◌≡◌ {A = ℕ} 0 1 = cc in absurd (omega arith)
+    by : (x : Bool) → cond x (Some (all_filled tests fields row)) None ≡ Some row' → Fits row'
+    by true e = let is : all_filled tests fields row ≡ row' = cc in subst Fits is (all_filled_fits tests fields row b f)
+    by false e = cc
 
 -- the row of zeros
 pub zeros_fit : Fits zeros

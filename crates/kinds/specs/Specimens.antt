@@ -1,22 +1,27 @@
 -- Both kinds meet the condition on kinds: each field by cases on its test, then the four together.
-use Rattle.std.specs.Prelude.{◌≡◌, ℕ, ◌≤◌, Bool, true, false, ◌&&◌, List, Some, None, Option, ◌≢◌, refl}
+use Rattle.std.specs.Prelude.{◌≡◌, ℕ, ◌≤◌, Bool, true, false, ◌&&◌, List, [], ◌∷◌, Some, None, Option, ◌≢◌, refl}
 use Rattle.std.proofs.Common.{arith}
 use Rattle.std.proofs.lemmas.Bool.Decides.{nat_tests}
 use Rattle.kinds.specs.declared.fields.Test.{Test}
 use Rattle.kinds.specs.declared.fields.Test.TheVariants.{Equals, Between, EqualsSlot, Put, AtLeastSlotPlus, Near}
 use Rattle.kinds.specs.declared.fields.Field.{Field}
 use Rattle.kinds.specs.Rows.{word, signed_word, listed, Row, Fits}
-use Rattle.kinds.specs.Fields.{passes, passes_if, chosen, chosen_if, chosen_signed, chosen_signed_if, unsigned, signed, filled_if, held, at}
+use Rattle.kinds.specs.Fields.{passes, passes_if, chosen, chosen_if, chosen_signed, chosen_signed_if, unsigned, signed, all_filled, held, at}
 use Rattle.kinds.specs.Meaning.{Lawful, AdmitsOn}
-use Rattle.kinds.specs.Transfers.{transfers, admitted}
-use Rattle.kinds.specs.Inspections.{inspections, checked}
+use Rattle.kinds.specs.Transfers.{transfers, admitted, transfer_fields}
+use Rattle.kinds.specs.Inspections.{inspections, checked, inspection_fields}
 use Rattle.kinds.specs.Fitting.{held_fits, word_lt, lt_word, signed_lt}
 
 -- four fields that pass are held
-held_met : (t : List (Option Test)) (row : Row) (a b c d : Field)
-    → passes_if (at t 0) row a ≡ true → passes_if (at t 1) row b ≡ true → passes_if (at t 2) row c ≡ true → passes_if (at t 3) row d ≡ true
-    → held t row a b c d ≡ Some (filled_if (at t 3) d (filled_if (at t 2) c (filled_if (at t 1) b (filled_if (at t 0) a row))))
-held_met t row a b c d p q r s = simp (p, q, r, s)
+held_met : (tests : List (Option Test)) (row : Row) (a b c d : Field)
+    → passes_if (at tests 0) row a ≡ true → passes_if (at tests 1) row b ≡ true → passes_if (at tests 2) row c ≡ true → passes_if (at tests 3) row d ≡ true
+    → held tests row (a ∷ b ∷ c ∷ d ∷ []) ≡ Some (all_filled tests (a ∷ b ∷ c ∷ d ∷ []) row)
+held_met [] row a b c d p q r s = refl
+held_met (t ∷ []) row a b c d p q r s = simp (p)
+held_met (t ∷ u ∷ []) row a b c d p q r s = simp (p, q)
+held_met (t ∷ u ∷ v ∷ []) row a b c d p q r s = simp (p, q, r)
+held_met (t ∷ u ∷ v ∷ w ∷ []) row a b c d p q r s = simp (p, q, r, s)
+held_met (t ∷ u ∷ v ∷ w ∷ x ∷ tests) row a b c d p q r s = simp (p, q, r, s)
 
 -- five numbers that all fit
 pub record Five (a b c d e : Bool) : Type 0 where
@@ -81,7 +86,7 @@ transfers_lawful = record {
       };
   keeps = λ c row r row' a f g e.
       let w = five_true (word r.from) (word r.to) (word r.resource) (word r.amount) (word r.day) g in
-      held_fits c.tests row (unsigned r.from) (unsigned r.to) (unsigned r.resource) (unsigned r.amount) row' (word_lt _ w.one) (word_lt _ w.two) (word_lt _ w.three) (word_lt _ w.four) f e;
+      held_fits c.tests row (transfer_fields r) row' (word_lt _ w.one, (word_lt _ w.two, (word_lt _ w.three, (word_lt _ w.four, tt)))) f e;
 }
 
 -- the vehicle, the check and the odometer of an inspection
@@ -137,5 +142,5 @@ inspections_lawful = record {
       };
   keeps = λ c row r row' a f g e.
       let w = five_true (word r.vehicle) (word r.check) (signed_word r.reading) (word r.odometer) (word r.day) g in
-      held_fits c.tests row (unsigned r.vehicle) (unsigned r.check) (signed r.reading) (unsigned r.odometer) row' (word_lt _ w.one) (word_lt _ w.two) (signed_lt r.reading w.three) (word_lt _ w.four) f e;
+      held_fits c.tests row (inspection_fields r) row' (word_lt _ w.one, (word_lt _ w.two, (signed_lt r.reading w.three, (word_lt _ w.four, tt)))) f e;
 }
