@@ -1,4 +1,4 @@
-use Rattle.std.proofs.Common.{◌≡◌, List, [], ◌∷◌, Option, ◌⊎◌, inl, inr, refl, sym, ◌∙◌}
+use Rattle.std.proofs.Common.{◌≡◌, arith, List, [], ◌∷◌, Option, ◌⊎◌, refl, sym, ◌∙◌}
 use Rattle.std.proofs.lemmas.Slice.Zip.{either_empty_from_Zip}
 use Rattle.kinds.specs.declared.fields.Test.{Test}
 use Rattle.kinds.specs.declared.fields.Field.{Field}
@@ -10,8 +10,7 @@ use Rattle.kinds.proofs.fields.Conditions.fill_all.Goals as goal
 filled_none : (tests : List (Option Test)) (fields : List Field) (row : Row) → (tests ≡ []) ⊎ (fields ≡ []) → all_filled tests fields row ≡ row
 filled_none [] fields row e = refl
 filled_none (t ∷ tests) [] row e = refl
-filled_none (t ∷ tests) (f ∷ fields) row (inl e) = cc
-filled_none (t ∷ tests) (f ∷ fields) row (inr e) = cc
+filled_none (t ∷ tests) (f ∷ fields) row e = grind arith
 
 pub returns : goal.returns
 returns c =
