@@ -1,28 +1,37 @@
 -- Both kinds meet the condition on kinds: each field by its test, then the four together.
-use Rattle.std.specs.Prelude.{◌≡◌, ℕ, ◌≤◌, Bool, true, List, [], ◌∷◌, Some, Option, ◌≢◌, refl}
+use Rattle.std.specs.Prelude.{◌≡◌, ℕ, ◌≤◌, Bool, true, cond, ◌&&◌, List, [], ◌∷◌, Some, None, Option, ◌≢◌, refl}
 use Rattle.std.proofs.Common.{arith}
+use Rattle.std.proofs.Math.Bool.{and-true}
 use Rattle.std.proofs.lemmas.Bool.Decides.{nat_tests}
 use Rattle.kinds.specs.declared.fields.Test.{Test}
 use Rattle.kinds.specs.declared.fields.Field.{Field}
 use Rattle.kinds.specs.declared.transfers.Transfer.{Transfer}
 use Rattle.kinds.specs.declared.inspections.Inspection.{Inspection}
 use Rattle.kinds.specs.Rows.{word, signed_word, Row, Fits}
-use Rattle.kinds.specs.Fields.{passes_if, chosen_if, chosen_signed_if, unsigned, signed, all_filled, held, at}
+use Rattle.kinds.specs.Fields.{passes_if, chosen_if, chosen_signed_if, unsigned, signed, filled_if, held, at}
 use Rattle.kinds.specs.Meaning.{Lawful, AdmitsOn}
 use Rattle.kinds.specs.Transfers.{transfers, transfer_fields}
 use Rattle.kinds.specs.Inspections.{inspections, inspection_fields}
 use Rattle.kinds.specs.Fitting.{BitsFit, held_fits, signed_lt}
 
+-- four fields, each under the test of its own place
+held_by_four : (tests : List (Option Test)) (row : Row) (a b c d : Field)
+    → held tests row (a ∷ b ∷ c ∷ d ∷ [])
+    ≡ cond (passes_if (at tests 0) row a && (passes_if (at tests 1) row b && (passes_if (at tests 2) row c && passes_if (at tests 3) row d)))
+    (Some (filled_if (at tests 3) d (filled_if (at tests 2) c (filled_if (at tests 1) b (filled_if (at tests 0) a row)))))
+    None
+held_by_four [] row a b c d = refl
+held_by_four (t ∷ []) row a b c d = refl
+held_by_four (t ∷ u ∷ []) row a b c d = refl
+held_by_four (t ∷ u ∷ v ∷ []) row a b c d = refl
+held_by_four (t ∷ u ∷ v ∷ w ∷ []) row a b c d = simp and-true
+held_by_four (t ∷ u ∷ v ∷ w ∷ x ∷ tests) row a b c d = simp and-true
+
 -- four fields that pass are held
 held_met : (tests : List (Option Test)) (row : Row) (a b c d : Field)
     → passes_if (at tests 0) row a ≡ true → passes_if (at tests 1) row b ≡ true → passes_if (at tests 2) row c ≡ true → passes_if (at tests 3) row d ≡ true
-    → held tests row (a ∷ b ∷ c ∷ d ∷ []) ≡ Some (all_filled tests (a ∷ b ∷ c ∷ d ∷ []) row)
-held_met [] row a b c d p q r s = refl
-held_met (t ∷ []) row a b c d p q r s = simp (p)
-held_met (t ∷ u ∷ []) row a b c d p q r s = simp (p, q)
-held_met (t ∷ u ∷ v ∷ []) row a b c d p q r s = simp (p, q, r)
-held_met (t ∷ u ∷ v ∷ w ∷ []) row a b c d p q r s = simp (p, q, r, s)
-held_met (t ∷ u ∷ v ∷ w ∷ x ∷ tests) row a b c d p q r s = simp (p, q, r, s)
+    → held tests row (a ∷ b ∷ c ∷ d ∷ []) ≡ Some (filled_if (at tests 3) d (filled_if (at tests 2) c (filled_if (at tests 1) b (filled_if (at tests 0) a row))))
+held_met tests row a b c d p q r s = rw (held_by_four tests row a b c d) (simp (p, q, r, s))
 
 day_word : (day : ℕ) → day ≤ 65535 → word day ≡ true
 day_word day h = grind (arith, nat_tests)

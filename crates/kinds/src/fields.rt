@@ -125,9 +125,8 @@ impl Conditions {
     fn all_pass(&self, row: &Row, fields: &[Field; FIELDS]) -> bool
         ensures { result ≡ all_pass self.now.tests row.now fields.now }
     {
-        self.tests.iter().zip(fields).all(|(test, field)| test.is_none_or(|test| test.passes(
-            row, field,
-        )))
+        let mut asked = self.tests.iter().zip(fields);
+        asked.all(|(test, field)| test.is_none_or(|test| test.passes(row, field)))
     }
 
     /// Puts the fields into the row whose tests are puts, in their order.
