@@ -3,12 +3,7 @@ use kinds::{FIELDS, Inspection, Inspections, Kind, Test, Transfer, Transfers};
 
 /// Which of the fields 1 to 4 a kind admits a test on.
 fn fields<K: Kind>(kind: &K, test: &Test) -> [bool; FIELDS] {
-    [
-        kind.admits(1, test),
-        kind.admits(2, test),
-        kind.admits(3, test),
-        kind.admits(4, test),
-    ]
+    [1, 2, 3, 4].map(|field| kind.admits(field, test))
 }
 
 #[test]

@@ -1,5 +1,5 @@
 //! Examples of inspections.
-use crate::worked::{BEFORE, PASSED, alone, held};
+use crate::worked::{BEFORE, PASSED, PUTS, alone, held};
 use kinds::{Conditions, Inspection, Inspections, Kind, LAST_DAY, Test};
 
 fn inspection(vehicle: u32, check: u32, reading: i32, odometer: u32) -> Inspection {
@@ -59,12 +59,7 @@ fn reads_before_and_puts_after(rt: HostRuntime) {
     let any = None;
     let below = Some(Test::AtLeastSlotPlus(2, 5));
     let near = Some(Test::Near(-3, 2));
-    let [p, q, r, s] = [
-        Some(Test::Put(0)),
-        Some(Test::Put(1)),
-        Some(Test::Put(2)),
-        Some(Test::Put(3)),
-    ];
+    let [p, q, r, s] = PUTS;
     let put_all = [1, 2, 4_294_967_295, 17, 14, 15, 16, 4_294_967_290];
     let put_last = [17, 11, 12, 13, 14, 15, 16, 4_294_967_290];
     let put_lowest = [10, 11, 2_147_483_648, 13, 14, 15, 16, 4_294_967_290];
@@ -95,28 +90,32 @@ fn reads_before_and_puts_after(rt: HostRuntime) {
 #[test]
 fn specimens(rt: HostRuntime) {
     let cases = [
-        (1, Test::Equals(500), (500, 0, 0, 0)),
-        (2, Test::Equals(500), (0, 500, 0, 0)),
-        (1, Test::EqualsSlot(3), (13, 0, 0, 0)),
-        (2, Test::EqualsSlot(3), (0, 13, 0, 0)),
-        (1, Test::Put(6), (0, 0, 0, 0)),
-        (2, Test::Put(6), (0, 0, 0, 0)),
-        (3, Test::Put(6), (0, 0, 0, 0)),
-        (4, Test::Put(6), (0, 0, 0, 0)),
-        (4, Test::AtLeastSlotPlus(0, 5), (0, 0, 0, 15)),
-        (4, Test::AtLeastSlotPlus(7, 10), (0, 0, 0, 4_294_967_295)),
-        (3, Test::Near(-7, 0), (0, 0, -7, 0)),
-        (3, Test::Near(i32::MIN, 0), (0, 0, i32::MIN, 0)),
+        (1, Test::Equals(500), inspection(500, 0, 0, 0)),
+        (2, Test::Equals(500), inspection(0, 500, 0, 0)),
+        (1, Test::EqualsSlot(3), inspection(13, 0, 0, 0)),
+        (2, Test::EqualsSlot(3), inspection(0, 13, 0, 0)),
+        (1, Test::Put(6), inspection(0, 0, 0, 0)),
+        (2, Test::Put(6), inspection(0, 0, 0, 0)),
+        (3, Test::Put(6), inspection(0, 0, 0, 0)),
+        (4, Test::Put(6), inspection(0, 0, 0, 0)),
+        (4, Test::AtLeastSlotPlus(0, 5), inspection(0, 0, 0, 15)),
+        (
+            4,
+            Test::AtLeastSlotPlus(7, 10),
+            inspection(0, 0, 0, 4_294_967_295),
+        ),
+        (3, Test::Near(-7, 0), inspection(0, 0, -7, 0)),
+        (3, Test::Near(i32::MIN, 0), inspection(0, 0, i32::MIN, 0)),
     ];
-    for (i, (field, test, fields)) in cases.into_iter().enumerate() {
+    for (i, (field, test, wanted)) in cases.into_iter().enumerate() {
         let conditions = alone(field, test);
         let found = Inspections.specimen(&conditions, &BEFORE, LAST_DAY);
         let (met, _) = held(&Inspections, &conditions, &found);
-        assert_eq!(rt;
-            (found.vehicle, found.check, found.reading, found.odometer),
-            fields,
-            "case {i}"
-        );
-        assert_eq!(rt; (met, Inspections.day(&found)), (true, 65_535), "case {i}");
+        let wanted = Inspection {
+            day: 65_535,
+            ..wanted
+        };
+        assert_eq!(rt; (found, met), (wanted, true), "case {i}");
+        assert_eq!(rt; Inspections.day(&found), 65_535, "case {i}");
     }
 }

@@ -1,8 +1,8 @@
 //! Examples of transfers.
-use crate::worked::{BEFORE, PASSED, alone, held};
-use kinds::{Conditions, Kind, LAST_DAY, Test, Transfer, Transfers};
+use crate::worked::{BEFORE, PASSED, PUTS, alone, held, on};
+use kinds::{Conditions, FIELDS, Kind, LAST_DAY, Test, Transfer, Transfers};
 
-fn transfer(from: u32, to: u32, resource: u32, amount: u32) -> Transfer {
+fn transfer([from, to, resource, amount]: [u32; FIELDS]) -> Transfer {
     Transfer {
         from,
         to,
@@ -15,12 +15,8 @@ fn transfer(from: u32, to: u32, resource: u32, amount: u32) -> Transfer {
 #[test]
 fn modes_on_every_field(rt: HostRuntime) {
     for (i, (test, n, met)) in PASSED.into_iter().enumerate() {
-        for (field, record) in [
-            (1, transfer(n, 9, 9, 9)),
-            (2, transfer(9, n, 9, 9)),
-            (3, transfer(9, 9, n, 9)),
-            (4, transfer(9, 9, 9, n)),
-        ] {
+        for field in 1..=FIELDS {
+            let record = transfer(on(field, n, 9));
             assert_eq!(rt;
                 held(&Transfers, &alone(field, test), &record),
                 (met, BEFORE),
@@ -35,12 +31,7 @@ fn reads_before_and_puts_after(rt: HostRuntime) {
     let any = None;
     let same = Some(Test::EqualsSlot(2));
     let five = Some(Test::Equals(5));
-    let [p, q, r, s] = [
-        Some(Test::Put(0)),
-        Some(Test::Put(1)),
-        Some(Test::Put(2)),
-        Some(Test::Put(3)),
-    ];
+    let [p, q, r, s] = PUTS;
     let put_all = [1, 2, 3, 4, 14, 15, 16, 4_294_967_290];
     let put_last = [4, 11, 12, 13, 14, 15, 16, 4_294_967_290];
     let put_third = [3, 11, 12, 13, 14, 15, 16, 4_294_967_290];
@@ -61,7 +52,7 @@ fn reads_before_and_puts_after(rt: HostRuntime) {
     ];
     for (i, (tests, to, met, after)) in cases.into_iter().enumerate() {
         assert_eq!(rt;
-            held(&Transfers, &Conditions { tests }, &transfer(1, to, 3, 4)),
+            held(&Transfers, &Conditions { tests }, &transfer([1, to, 3, 4])),
             (met, after),
             "case {i}"
         );
@@ -77,20 +68,15 @@ fn specimens(rt: HostRuntime) {
         (Test::Put(6), 0),
     ];
     for (i, (test, n)) in cases.into_iter().enumerate() {
-        for (field, fields) in [
-            (1, [n, 0, 0, 0]),
-            (2, [0, n, 0, 0]),
-            (3, [0, 0, n, 0]),
-            (4, [0, 0, 0, n]),
-        ] {
+        for field in 1..=FIELDS {
+            let wanted = Transfer {
+                day: 65_535,
+                ..transfer(on(field, n, 0))
+            };
             let conditions = alone(field, test);
             let found = Transfers.specimen(&conditions, &BEFORE, LAST_DAY);
             let (met, _) = held(&Transfers, &conditions, &found);
-            assert_eq!(rt;
-                ([found.from, found.to, found.resource, found.amount], met),
-                (fields, true),
-                "case {i} on field {field}"
-            );
+            assert_eq!(rt; (found, met), (wanted, true), "case {i} on field {field}");
             assert_eq!(rt; Transfers.day(&found), 65_535);
         }
     }

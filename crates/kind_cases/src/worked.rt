@@ -1,5 +1,6 @@
 //! What the examples of both kinds share.
 use kinds::{Conditions, FIELDS, Kind, Row, Test, Value, put};
+use std::array;
 
 /// The row that the examples start from.
 pub const BEFORE: Row = [10, 11, 12, 13, 14, 15, 16, 4_294_967_290];
@@ -24,13 +25,24 @@ pub const PASSED: [(Test, u32, bool); 16] = [
     (Test::Near(-1, 5), 4_294_967_295, false),
 ];
 
+/// Each field put into a slot of its own.
+pub const PUTS: [Option<Test>; FIELDS] = [
+    Some(Test::Put(0)),
+    Some(Test::Put(1)),
+    Some(Test::Put(2)),
+    Some(Test::Put(3)),
+];
+
+/// What one field has, 1 to 4, and what each of the others has.
+pub fn on<T: Copy>(field: usize, value: T, others: T) -> [T; FIELDS] {
+    array::from_fn(|i| if i + 1 == field { value } else { others })
+}
+
 /// A test on one field, 1 to 4, and none on the others.
 pub fn alone(field: usize, test: Test) -> Conditions {
-    let mut tests = [None; FIELDS];
-    if 1 <= field && field <= FIELDS {
-        tests[field - 1] = Some(test);
+    Conditions {
+        tests: on(field, Some(test), None),
     }
-    Conditions { tests }
 }
 
 /// Whether a record meets conditions under `BEFORE`, and the row that is left.

@@ -1,6 +1,7 @@
 -- What a test asks of one field, what it puts into the row and which value a specimen has there; then the same of a field that may
 -- have no test, and of the four fields of a record. Assumes nothing.
-use Rattle.std.specs.Prelude.{ℕ, ◌+◌, min, Bool, true, cond, ◌&&◌, List, ℤ, pos, ◌-ℤ◌, Some, None, Option, ◌==◌, nat_le, slice_index, slice_index_or, slice_set, unsigned_abs}
+use Rattle.std.specs.Prelude.{ℕ, ◌+◌, min, Bool, true, cond, ◌&&◌, List, ℤ, pos, ◌-ℤ◌, Some, None, Option, ◌==◌, nat_le, slice_index, slice_index_or, slice_set, unsigned_abs, fold}
+use Rattle.std.specs.List.{list_all, zip}
 use Rattle.std.proofs.Common.{to_z, of_z}
 use Rattle.std.specs.Int.{w32}
 use Rattle.kinds.specs.declared.fields.Test.{Test}
@@ -80,10 +81,14 @@ chosen_signed_if (Some t) row = chosen_signed t row
 abbrev pub at : List (Option Test) → ℕ → Option Test
 at tests i = slice_index_or tests i None
 
--- The row that results where four fields all pass their tests, each under the row from before; None where one does not. Puts follow
--- once all agree, in field order.
-abbrev pub held : List (Option Test) → Row → Field → Field → Field → Field → Option Row
-held t row a b c d =
-    cond (passes_if (at t 0) row a && (passes_if (at t 1) row b && (passes_if (at t 2) row c && passes_if (at t 3) row d)))
-    (Some (filled_if (at t 3) d (filled_if (at t 2) c (filled_if (at t 1) b (filled_if (at t 0) a row)))))
-    None
+-- whether fields all pass their tests, each under the row from before
+abbrev pub all_pass : List (Option Test) → Row → List Field → Bool
+all_pass tests row fields = list_all (λ p. passes_if p.0 row p.1) (zip tests fields)
+
+-- the row once the tests have put their fields, in field order
+abbrev pub all_filled : List (Option Test) → List Field → Row → Row
+all_filled tests fields row = fold (λ row p. filled_if p.0 p.1 row) row (zip tests fields)
+
+-- The row that results where fields all pass their tests; None where one does not. Puts follow once all agree.
+abbrev pub held : List (Option Test) → Row → List Field → Option Row
+held tests row fields = cond (all_pass tests row fields) (Some (all_filled tests fields row)) None

@@ -1,70 +1,60 @@
--- Both kinds meet the condition on kinds: each field by cases on its test, then the four together.
-use Rattle.std.specs.Prelude.{◌≡◌, ℕ, ◌≤◌, Bool, true, false, ◌&&◌, List, Some, None, Option, ◌≢◌, refl}
+-- Both kinds meet the condition on kinds: each field by its test, then the four together.
+use Rattle.std.specs.Prelude.{◌≡◌, ℕ, ◌≤◌, Bool, true, cond, ◌&&◌, List, [], ◌∷◌, Some, None, Option, ◌≢◌, refl}
 use Rattle.std.proofs.Common.{arith}
+use Rattle.std.proofs.Math.Bool.{and-true}
 use Rattle.std.proofs.lemmas.Bool.Decides.{nat_tests}
 use Rattle.kinds.specs.declared.fields.Test.{Test}
-use Rattle.kinds.specs.declared.fields.Test.TheVariants.{Equals, Between, EqualsSlot, Put, AtLeastSlotPlus, Near}
 use Rattle.kinds.specs.declared.fields.Field.{Field}
-use Rattle.kinds.specs.Rows.{word, signed_word, listed, Row, Fits}
-use Rattle.kinds.specs.Fields.{passes, passes_if, chosen, chosen_if, chosen_signed, chosen_signed_if, unsigned, signed, filled_if, held, at}
+use Rattle.kinds.specs.declared.transfers.Transfer.{Transfer}
+use Rattle.kinds.specs.declared.inspections.Inspection.{Inspection}
+use Rattle.kinds.specs.Rows.{word, signed_word, Row, Fits}
+use Rattle.kinds.specs.Fields.{passes_if, chosen_if, chosen_signed_if, unsigned, signed, filled_if, held, at}
 use Rattle.kinds.specs.Meaning.{Lawful, AdmitsOn}
-use Rattle.kinds.specs.Transfers.{transfers, admitted}
-use Rattle.kinds.specs.Inspections.{inspections, checked}
-use Rattle.kinds.specs.Fitting.{held_fits, word_lt, lt_word, signed_lt}
+use Rattle.kinds.specs.Transfers.{transfers, transfer_fields}
+use Rattle.kinds.specs.Inspections.{inspections, inspection_fields}
+use Rattle.kinds.specs.Fitting.{BitsFit, held_fits, signed_lt}
+
+-- four fields, each under the test of its own place
+held_by_four : (tests : List (Option Test)) (row : Row) (a b c d : Field)
+    → held tests row (a ∷ b ∷ c ∷ d ∷ [])
+    ≡ cond (passes_if (at tests 0) row a && (passes_if (at tests 1) row b && (passes_if (at tests 2) row c && passes_if (at tests 3) row d)))
+    (Some (filled_if (at tests 3) d (filled_if (at tests 2) c (filled_if (at tests 1) b (filled_if (at tests 0) a row)))))
+    None
+held_by_four [] row a b c d = refl
+held_by_four (t ∷ []) row a b c d = refl
+held_by_four (t ∷ u ∷ []) row a b c d = refl
+held_by_four (t ∷ u ∷ v ∷ []) row a b c d = refl
+held_by_four (t ∷ u ∷ v ∷ w ∷ []) row a b c d = simp and-true
+held_by_four (t ∷ u ∷ v ∷ w ∷ x ∷ tests) row a b c d = simp and-true
 
 -- four fields that pass are held
-held_met : (t : List (Option Test)) (row : Row) (a b c d : Field)
-    → passes_if (at t 0) row a ≡ true → passes_if (at t 1) row b ≡ true → passes_if (at t 2) row c ≡ true → passes_if (at t 3) row d ≡ true
-    → held t row a b c d ≡ Some (filled_if (at t 3) d (filled_if (at t 2) c (filled_if (at t 1) b (filled_if (at t 0) a row))))
-held_met t row a b c d p q r s = simp (p, q, r, s)
-
--- five numbers that all fit
-pub record Five (a b c d e : Bool) : Type 0 where
-  pub one : a ≡ true
-  pub two : b ≡ true
-  pub three : c ≡ true
-  pub four : d ≡ true
-  pub five : e ≡ true
-
-and_five : (a b c d e : Bool) → Five a b c d e → (a && b && c && d && e) ≡ true
-and_five a b c d e f = simp (f.one, f.two, f.three, f.four, f.five)
-
-five_true : (a b c d e : Bool) → (a && b && c && d && e) ≡ true → Five a b c d e
-five_true a b c d e h = grind (arith, nat_tests)
-
-both_true : (a b : Bool) → (a && b) ≡ true → (a ≡ true) × (b ≡ true)
-both_true true b e = (refl, e)
-both_true false b e = let z : ◌≡◌ {A = ℕ} 0 1 = cc in absurd (omega arith)
+held_met : (tests : List (Option Test)) (row : Row) (a b c d : Field)
+    → passes_if (at tests 0) row a ≡ true → passes_if (at tests 1) row b ≡ true → passes_if (at tests 2) row c ≡ true → passes_if (at tests 3) row d ≡ true
+    → held tests row (a ∷ b ∷ c ∷ d ∷ []) ≡ Some (filled_if (at tests 3) d (filled_if (at tests 2) c (filled_if (at tests 1) b (filled_if (at tests 0) a row))))
+held_met tests row a b c d p q r s = rw (held_by_four tests row a b c d) (simp (p, q, r, s))
 
 day_word : (day : ℕ) → day ≤ 65535 → word day ≡ true
-day_word day h = lt_word day (omega arith)
+day_word day h = grind (arith, nat_tests)
 
--- what is chosen for a listed test fits
-chosen_fits : (t : Test) (row : Row) → Fits row → listed t ≡ true → word (chosen t row) ≡ true
-chosen_fits (Equals u) row f l = l
-chosen_fits (Between u v) row f l = (both_true (word u) (word v) l).0
-chosen_fits (EqualsSlot b) row f l = lt_word _ (f.words b)
-chosen_fits (Put b) row f l = refl
-chosen_fits (AtLeastSlotPlus b u) row f l = grind (arith, nat_tests)
-chosen_fits (Near u v) row f l = lt_word _ (signed_lt u (both_true (signed_word u) (word v) l).0)
+-- a field of a specimen: its number fits, and it passes its test, if it has one
+pub record Suits (o : Option Test) (row : Row) (fit : Bool) (field : Field) : Type 0 where
+  pub fits : fit ≡ true
+  pub passes : passes_if o row field ≡ true
 
--- the specimen's value in a field without sign fits and passes
-pub record Suits (o : Option Test) (row : Row) : Type 0 where
-  pub fits : word (chosen_if o row) ≡ true
-  pub passes : passes_if o row (unsigned (chosen_if o row)) ≡ true
+-- a field without sign
+abbrev SuitsUnsigned : Option Test → Row → Type 0
+SuitsUnsigned o row = Suits o row (word (chosen_if o row)) (unsigned (chosen_if o row))
+
+-- the reading
+abbrev SuitsSigned : Option Test → Row → Type 0
+SuitsSigned o row = Suits o row (signed_word (chosen_signed_if o row)) (signed (chosen_signed_if o row))
 
 -- a field of a transfer
-transfer_passes : (t : Test) (row : Row) → admitted t ≡ true → passes t row (unsigned (chosen t row)) ≡ true
-transfer_passes (Equals u) row a = grind (arith, nat_tests)
-transfer_passes (Between u v) row a = grind (arith, nat_tests)
-transfer_passes (EqualsSlot b) row a = grind (arith, nat_tests)
-transfer_passes (Put b) row a = refl
-transfer_passes (AtLeastSlotPlus b u) row a = grind (arith, nat_tests)
-transfer_passes (Near u v) row a = grind (arith, nat_tests)
+transfer_field : (field : ℕ) (o : Option Test) (row : Row) → Fits row → AdmitsOn transfers field o → SuitsUnsigned o row
+transfer_field field o row f a = record { fits = grind (arith, nat_tests, f.words); passes = grind (arith, nat_tests) }
 
-transfer_field : (field : ℕ) (o : Option Test) (row : Row) → Fits row → AdmitsOn transfers field o → Suits o row
-transfer_field field None row f a = record { fits = refl; passes = refl }
-transfer_field field (Some t) row f a = record { fits = chosen_fits t row f a.1; passes = transfer_passes t row a.0 }
+transfer_bits : (r : Transfer) → transfers.fits r ≡ true → BitsFit (transfer_fields r)
+transfer_bits r e = grind (arith, nat_tests)
 
 pub transfers_lawful : Lawful transfers
 transfers_lawful = record {
@@ -73,54 +63,26 @@ transfers_lawful = record {
       let q = transfer_field 2 (at c.tests 1) row f a.second in
       let r = transfer_field 3 (at c.tests 2) row f a.third in
       let s = transfer_field 4 (at c.tests 3) row f a.fourth in
+      let d = day_word day small in
       record {
-        fits = and_five _ _ _ _ _ (record { one = p.fits; two = q.fits; three = r.fits; four = s.fits; five = day_word day small });
+        fits = cc;
         bears = refl;
         after = _;
         met = held_met c.tests row _ _ _ _ p.passes q.passes r.passes s.passes;
       };
-  keeps = λ c row r row' a f g e.
-      let w = five_true (word r.from) (word r.to) (word r.resource) (word r.amount) (word r.day) g in
-      held_fits c.tests row (unsigned r.from) (unsigned r.to) (unsigned r.resource) (unsigned r.amount) row' (word_lt _ w.one) (word_lt _ w.two) (word_lt _ w.three) (word_lt _ w.four) f e;
+  keeps = λ c row r row' a f g e. held_fits c.tests row (transfer_fields r) row' (transfer_bits r g) f e;
 }
 
 -- the vehicle, the check and the odometer of an inspection
-counted_passes : (field : ℕ) (t : Test) (row : Row) → (field ≢ 3) → checked field t ≡ true → passes t row (unsigned (chosen t row)) ≡ true
-counted_passes field (Equals u) row n a = grind (arith, nat_tests)
-counted_passes field (Between u v) row n a = grind (arith, nat_tests)
-counted_passes field (EqualsSlot b) row n a = grind (arith, nat_tests)
-counted_passes field (Put b) row n a = refl
-counted_passes field (AtLeastSlotPlus b u) row n a = grind (arith, nat_tests)
-counted_passes field (Near u v) row n a = grind (arith, nat_tests)
+counted_field : (field : ℕ) (o : Option Test) (row : Row) → (field ≢ 3) → Fits row → AdmitsOn inspections field o → SuitsUnsigned o row
+counted_field field o row n f a = record { fits = grind (arith, nat_tests, f.words); passes = grind (arith, nat_tests) }
 
-counted_field : (field : ℕ) (o : Option Test) (row : Row) → (field ≢ 3) → Fits row → AdmitsOn inspections field o → Suits o row
-counted_field field None row n f a = record { fits = refl; passes = refl }
-counted_field field (Some t) row n f a = record { fits = chosen_fits t row f a.1; passes = counted_passes field t row n a.0 }
+-- the reading
+reading_field : (o : Option Test) (row : Row) → AdmitsOn inspections 3 o → SuitsSigned o row
+reading_field o row a = record { fits = grind (arith, nat_tests); passes = grind (arith, nat_tests) }
 
--- the specimen's reading fits and passes
-pub record Reads (o : Option Test) (row : Row) : Type 0 where
-  pub fits : signed_word (chosen_signed_if o row) ≡ true
-  pub passes : passes_if o row (signed (chosen_signed_if o row)) ≡ true
-
-reading_passes : (t : Test) (row : Row) → checked 3 t ≡ true → passes t row (signed (chosen_signed t row)) ≡ true
-reading_passes (Equals u) row a = grind (arith, nat_tests)
-reading_passes (Between u v) row a = grind (arith, nat_tests)
-reading_passes (EqualsSlot b) row a = grind (arith, nat_tests)
-reading_passes (Put b) row a = refl
-reading_passes (AtLeastSlotPlus b u) row a = grind (arith, nat_tests)
-reading_passes (Near u v) row a = grind (arith, nat_tests)
-
-reading_fits : (t : Test) (row : Row) → checked 3 t ≡ true → listed t ≡ true → signed_word (chosen_signed t row) ≡ true
-reading_fits (Equals u) row a l = grind (arith, nat_tests)
-reading_fits (Between u v) row a l = grind (arith, nat_tests)
-reading_fits (EqualsSlot b) row a l = grind (arith, nat_tests)
-reading_fits (Put b) row a l = refl
-reading_fits (AtLeastSlotPlus b u) row a l = grind (arith, nat_tests)
-reading_fits (Near u v) row a l = (both_true (signed_word u) (word v) l).0
-
-reading_field : (o : Option Test) (row : Row) → AdmitsOn inspections 3 o → Reads o row
-reading_field None row a = record { fits = refl; passes = refl }
-reading_field (Some t) row a = record { fits = reading_fits t row a.0 a.1; passes = reading_passes t row a.0 }
+inspection_bits : (r : Inspection) → inspections.fits r ≡ true → BitsFit (inspection_fields r)
+inspection_bits r e = grind (arith, nat_tests, signed_lt)
 
 pub inspections_lawful : Lawful inspections
 inspections_lawful = record {
@@ -129,13 +91,12 @@ inspections_lawful = record {
       let q = counted_field 2 (at c.tests 1) row (λ e. omega arith) f a.second in
       let r = reading_field (at c.tests 2) row a.third in
       let s = counted_field 4 (at c.tests 3) row (λ e. omega arith) f a.fourth in
+      let d = day_word day small in
       record {
-        fits = and_five _ _ _ _ _ (record { one = p.fits; two = q.fits; three = r.fits; four = s.fits; five = day_word day small });
+        fits = cc;
         bears = refl;
         after = _;
         met = held_met c.tests row _ _ _ _ p.passes q.passes r.passes s.passes;
       };
-  keeps = λ c row r row' a f g e.
-      let w = five_true (word r.vehicle) (word r.check) (signed_word r.reading) (word r.odometer) (word r.day) g in
-      held_fits c.tests row (unsigned r.vehicle) (unsigned r.check) (signed r.reading) (unsigned r.odometer) row' (word_lt _ w.one) (word_lt _ w.two) (signed_lt r.reading w.three) (word_lt _ w.four) f e;
+  keeps = λ c row r row' a f g e. held_fits c.tests row (inspection_fields r) row' (inspection_bits r g) f e;
 }

@@ -1,6 +1,7 @@
 //! What is asked of one field of a record, and of its four fields together.
-ghost use Rattle.std.specs.Prelude.{◌≡◌, is_some};
-ghost use Rattle.kinds.specs.Fields.{passes, filled, chosen, chosen_signed, passes_if, filled_if, chosen_if, chosen_signed_if, held, unsigned, signed};
+ghost use Rattle.std.specs.Prelude.{◌≡◌, is_some, map};
+ghost use Rattle.std.specs.Int.{cast_signed, w32};
+ghost use Rattle.kinds.specs.Fields.{passes, filled, chosen, chosen_signed, chosen_if, chosen_signed_if, all_pass, all_filled, held, unsigned, signed};
 ghost use Rattle.kinds.specs.Meaning.{row_after};
 
 use crate::rows::{Row, put, slot};
@@ -9,7 +10,7 @@ use crate::rows::{Row, put, slot};
 pub const FIELDS: usize = 4;
 
 /// What is asked of one field.
-#[derive(Clone, Copy)]
+#[derive(Clone, Copy, Debug, PartialEq, Eq)]
 pub enum Test {
     /// The field equals the number.
     Equals(u32),
@@ -28,14 +29,14 @@ pub enum Test {
 
 /// What a step asks of the four fields of a record, in their order: at most one test to a field. A
 /// field without a test takes any value.
-#[derive(Clone, Copy)]
+#[derive(Clone, Copy, Debug, PartialEq, Eq)]
 pub struct Conditions {
     /// The test of each field.
     pub tests: [Option<Test>; FIELDS],
 }
 
 /// A field of a record: its 32 bits, and the number that they stand for.
-#[derive(Clone, Copy)]
+#[derive(Clone, Copy, Debug, PartialEq, Eq)]
 pub struct Field {
     /// The bits, as a slot holds them.
     pub bits: u32,
@@ -43,21 +44,23 @@ pub struct Field {
     pub value: i64,
 }
 
-impl Field {
-    /// A field without sign.
-    pub(crate) fn unsigned(n: u32) -> Field
-        ensures { result ≡ unsigned n }
-    {
+/// A field without sign.
+impl From<u32> for Field {
+    ghost from_gives = { λ n field. field ≡ unsigned n };
+
+    fn from(n: u32) -> Self {
         Field {
             bits: n,
             value: i64::from(n),
         }
     }
+}
 
-    /// A signed field; its bits are its two's complement.
-    pub(crate) fn signed(n: i32) -> Field
-        ensures { result ≡ signed n }
-    {
+/// A signed field; its bits are its two's complement.
+impl From<i32> for Field {
+    ghost from_gives = { λ n field. field ≡ signed n };
+
+    fn from(n: i32) -> Self {
         Field {
             bits: n.cast_unsigned(),
             value: i64::from(n),
@@ -72,7 +75,7 @@ impl Test {
     {
         match *self {
             Test::Equals(u) => field.bits == u,
-            Test::Between(u, v) => u <= field.bits && field.bits <= v,
+            Test::Between(u, v) => (u..=v).contains(&field.bits),
             Test::EqualsSlot(b) => field.bits == slot(row, b),
             Test::Put(_) => true,
             Test::AtLeastSlotPlus(b, u) => slot(row, b).saturating_add(u) <= field.bits,
@@ -89,96 +92,60 @@ impl Test {
         }
     }
 
-    /// The specimen's value in a field without sign.
+    /// The bits of the specimen's value.
     fn chosen(&self, row: &Row) -> u32
-        ensures { result ≡ chosen self.now row.now }
+        ensures bits { result ≡ chosen self.now row.now }
+        ensures signed { cast_signed w32 result ≡ chosen_signed self.now row.now }
     {
         match *self {
-            Test::Equals(u) => u,
-            Test::Between(u, _) => u,
+            Test::Equals(u) | Test::Between(u, _) => u,
             Test::EqualsSlot(b) => slot(row, b),
             Test::Put(_) => 0,
             Test::AtLeastSlotPlus(b, u) => slot(row, b).saturating_add(u),
             Test::Near(u, _) => u.cast_unsigned(),
         }
     }
+}
 
-    /// The specimen's value in a signed field.
-    fn chosen_signed(&self, row: &Row) -> i32
-        ensures { result ≡ chosen_signed self.now row.now }
+impl Conditions {
+    /// Whether the fields pass their tests. If all do, the row then has what they put, in their
+    /// order; otherwise it stays.
+    pub(crate) fn hold(&self, row: &mut Row, fields: [Field; FIELDS]) -> bool
+        ensures answer { result ≡ is_some (held self.now.tests row.old fields) }
+        ensures after { row.new ≡ row_after (held self.now.tests row.old fields) row.old }
     {
-        match *self {
-            Test::Equals(u) => u.cast_signed(),
-            Test::Between(u, _) => u.cast_signed(),
-            Test::EqualsSlot(b) => slot(row, b).cast_signed(),
-            Test::Put(_) => 0,
-            Test::AtLeastSlotPlus(b, u) => slot(row, b).saturating_add(u).cast_signed(),
-            Test::Near(u, _) => u,
+        let met = self.all_pass(row, &fields);
+        if met {
+            self.fill_all(&fields, row);
+        }
+        met
+    }
+
+    /// Whether the fields pass their tests; without a test any does.
+    fn all_pass(&self, row: &Row, fields: &[Field; FIELDS]) -> bool
+        ensures { result ≡ all_pass self.now.tests row.now fields.now }
+    {
+        let mut asked = self.tests.iter().zip(fields);
+        asked.all(|(test, field)| test.is_none_or(|test| test.passes(row, field)))
+    }
+
+    /// Puts the fields into the row whose tests are puts, in their order.
+    fn fill_all(&self, fields: &[Field; FIELDS], row: &mut Row)
+        ensures { row.new ≡ all_filled self.now.tests fields.now row.old }
+    {
+        for (test, field) in self.tests.iter().zip(fields) {
+            if let Some(test) = test {
+                test.fill(field, row);
+            }
         }
     }
-}
 
-/// Whether a field passes its test; without a test any does.
-fn passes_if(test: &Option<Test>, row: &Row, field: &Field) -> bool
-    ensures { result ≡ passes_if test.now row.now field.now }
-{
-    match test {
-        Some(test) => test.passes(row, field),
-        None => true,
+    /// The bits of the specimen's values; 0 without a test.
+    pub(crate) fn chosen(&self, row: &Row) -> [u32; FIELDS]
+        ensures bits { result ≡ map (λ test. chosen_if test row.now) self.now.tests }
+        ensures signed { map (cast_signed w32) result ≡ map (λ test. chosen_signed_if test row.now) self.now.tests }
+    {
+        self.tests
+            .map(|test| test.map_or(0, |test| test.chosen(row)))
     }
-}
-
-/// Puts a field into the row, if it has a test that is a put.
-fn fill_if(test: &Option<Test>, field: &Field, row: &mut Row)
-    ensures { row.new ≡ filled_if test.now field.now row.old }
-{
-    if let Some(test) = test {
-        test.fill(field, row);
-    }
-}
-
-/// The specimen's value in a field without sign; 0 without a test.
-pub(crate) fn chosen_if(test: &Option<Test>, row: &Row) -> u32
-    ensures { result ≡ chosen_if test.now row.now }
-{
-    match test {
-        Some(test) => test.chosen(row),
-        None => 0,
-    }
-}
-
-/// The specimen's value in a signed field; 0 without a test.
-pub(crate) fn chosen_signed_if(test: &Option<Test>, row: &Row) -> i32
-    ensures { result ≡ chosen_signed_if test.now row.now }
-{
-    match test {
-        Some(test) => test.chosen_signed(row),
-        None => 0,
-    }
-}
-
-/// Whether four fields pass their tests. If all do, the row then has what they put, in their order;
-/// otherwise it stays.
-pub(crate) fn hold(
-    tests: &[Option<Test>; FIELDS],
-    row: &mut Row,
-    a: Field,
-    b: Field,
-    c: Field,
-    d: Field,
-) -> bool
-    ensures answer { result ≡ is_some (held tests.now row.old a b c d) }
-    ensures after { row.new ≡ row_after (held tests.now row.old a b c d) row.old }
-{
-    let met = passes_if(&tests[0], row, &a)
-        && passes_if(&tests[1], row, &b)
-        && passes_if(&tests[2], row, &c)
-        && passes_if(&tests[3], row, &d);
-    if met {
-        fill_if(&tests[0], &a, row);
-        fill_if(&tests[1], &b, row);
-        fill_if(&tests[2], &c, row);
-        fill_if(&tests[3], &d, row);
-    }
-    met
 }

@@ -2,12 +2,12 @@
 ghost use Rattle.kinds.specs.Inspections.{inspections};
 ghost use Rattle.kinds.specs.Specimens.{inspections_lawful};
 
-use crate::fields::{Conditions, Field, Test, chosen_if, chosen_signed_if, hold};
+use crate::fields::{Conditions, Field, Test};
 use crate::interface::Kind;
 use crate::rows::Row;
 
 /// An inspection: its four fields in their order, and its day.
-#[derive(Clone, Copy)]
+#[derive(Clone, Copy, Debug, PartialEq, Eq)]
 pub struct Inspection {
     /// The vehicle inspected.
     pub vehicle: u32,
@@ -22,7 +22,7 @@ pub struct Inspection {
 }
 
 /// The kind of inspections.
-#[derive(Clone, Copy)]
+#[derive(Clone, Copy, Debug, PartialEq, Eq)]
 pub struct Inspections;
 
 impl Inspections {
@@ -60,22 +60,22 @@ impl Kind for Inspections {
     }
 
     fn meets(&self, conditions: &Conditions, row: &mut Row, record: &Inspection) -> bool {
-        hold(
-            &conditions.tests,
-            row,
-            Field::unsigned(record.vehicle),
-            Field::unsigned(record.check),
-            Field::signed(record.reading),
-            Field::unsigned(record.odometer),
-        )
+        let fields = [
+            Field::from(record.vehicle),
+            Field::from(record.check),
+            Field::from(record.reading),
+            Field::from(record.odometer),
+        ];
+        conditions.hold(row, fields)
     }
 
     fn specimen(&self, conditions: &Conditions, row: &Row, day: u32) -> Inspection {
+        let [vehicle, check, reading, odometer] = conditions.chosen(row);
         Inspection {
-            vehicle: chosen_if(&conditions.tests[0], row),
-            check: chosen_if(&conditions.tests[1], row),
-            reading: chosen_signed_if(&conditions.tests[2], row),
-            odometer: chosen_if(&conditions.tests[3], row),
+            vehicle,
+            check,
+            reading: reading.cast_signed(),
+            odometer,
             day,
         }
     }

@@ -21,10 +21,12 @@ pub trait Kind {
     ghost numbered: { Self → ℕ };
 
     /// The kind's own number, which no other kind has.
+    // Kept as a number: a contract file says its kind by one byte.
     fn number(&self) -> u8
         ensures { result ≡ numbered self.now };
 
     /// Whether a test is admitted on a field, 1 to 4.
+    // Kept as a number: a condition's entry in a contract file says its field by one byte.
     fn admits(&self, field: u8, test: &Test) -> bool
         ensures { result ≡ meaning.admits field test.now };
 
@@ -34,6 +36,7 @@ pub trait Kind {
 
     /// Whether a record meets conditions under a row. If it does, the row is left as the one that
     /// results; otherwise it stays.
+    // Kept as a yes or no beside a lent row: docs/DECISIONS.md has this form as asked for.
     fn meets(&self, conditions: &Conditions, row: &mut Row, record: &Self::Record) -> bool
         ensures answer { result ≡ is_some (meaning.meets conditions.now row.old «record».now) }
         ensures after { row.new ≡ row_after (meaning.meets conditions.now row.old «record».now) row.old };

@@ -9,7 +9,7 @@ pub const SLOTS: usize = 8;
 pub type Row = [u32; SLOTS];
 
 /// What an argument of a call fills a slot with.
-#[derive(Clone, Copy)]
+#[derive(Clone, Copy, Debug, PartialEq, Eq)]
 pub enum Value {
     /// A number.
     Constant(u32),
@@ -18,7 +18,7 @@ pub enum Value {
 }
 
 /// An argument of a call.
-#[derive(Clone, Copy)]
+#[derive(Clone, Copy, Debug, PartialEq, Eq)]
 pub struct Filling {
     /// The slot of the callee's row that is filled.
     pub slot: u8,
@@ -42,18 +42,16 @@ impl Value {
 pub(crate) fn slot(row: &Row, b: u8) -> u32
     ensures { result ≡ slice_index row.now b }
 {
-    if (b as usize) < SLOTS {
-        row[b as usize]
-    } else {
-        0
-    }
+    row.get(usize::from(b)).copied().unwrap_or(0)
 }
 
 /// Puts a number into a slot; a slot that the row does not have takes nothing.
 pub fn put(row: &mut Row, slot: u8, number: u32)
     ensures { row.new ≡ slice_set row.old slot number }
 {
-    if (slot as usize) < SLOTS {
-        row[slot as usize] = number;
+    // Kept as a test and a write: nothing is known of a row once a place of it was lent.
+    let slot = usize::from(slot);
+    if slot < SLOTS {
+        row[slot] = number;
     }
 }

@@ -2,12 +2,12 @@
 ghost use Rattle.kinds.specs.Transfers.{transfers};
 ghost use Rattle.kinds.specs.Specimens.{transfers_lawful};
 
-use crate::fields::{Conditions, Field, Test, chosen_if, hold};
+use crate::fields::{Conditions, Field, Test};
 use crate::interface::Kind;
 use crate::rows::Row;
 
 /// A transfer: its four fields in their order, and its day.
-#[derive(Clone, Copy)]
+#[derive(Clone, Copy, Debug, PartialEq, Eq)]
 pub struct Transfer {
     /// The party that gives.
     pub from: u32,
@@ -22,7 +22,7 @@ pub struct Transfer {
 }
 
 /// The kind of transfers.
-#[derive(Clone, Copy)]
+#[derive(Clone, Copy, Debug, PartialEq, Eq)]
 pub struct Transfers;
 
 impl Transfers {
@@ -58,22 +58,17 @@ impl Kind for Transfers {
     }
 
     fn meets(&self, conditions: &Conditions, row: &mut Row, record: &Transfer) -> bool {
-        hold(
-            &conditions.tests,
-            row,
-            Field::unsigned(record.from),
-            Field::unsigned(record.to),
-            Field::unsigned(record.resource),
-            Field::unsigned(record.amount),
-        )
+        let fields = [record.from, record.to, record.resource, record.amount];
+        conditions.hold(row, fields.map(Field::from))
     }
 
     fn specimen(&self, conditions: &Conditions, row: &Row, day: u32) -> Transfer {
+        let [from, to, resource, amount] = conditions.chosen(row);
         Transfer {
-            from: chosen_if(&conditions.tests[0], row),
-            to: chosen_if(&conditions.tests[1], row),
-            resource: chosen_if(&conditions.tests[2], row),
-            amount: chosen_if(&conditions.tests[3], row),
+            from,
+            to,
+            resource,
+            amount,
             day,
         }
     }
