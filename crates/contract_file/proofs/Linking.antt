@@ -1,5 +1,5 @@
 -- The links of a chain, one by one.
-use Rattle.std.proofs.Common.{◌≡◌, ℕ, zero, suc, ◌+◌, List, [], ◌∷◌, Some, None, Option, refl, ap, ◌∙◌, add-one}
+use Rattle.std.proofs.Common.{◌≡◌, ℕ, zero, suc, ◌+◌, List, [], ◌∷◌, Some, None, Option, refl, ap, add-one}
 use Rattle.entries.specs.declared.entries.Entry.{Entry}
 use Rattle.entries.specs.Parts.{at}
 use Rattle.contract_file.specs.Links.{link_and, links_from}

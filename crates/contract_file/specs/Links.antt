@@ -7,14 +7,14 @@ use Rattle.entries.specs.Parts.{at}
 use Rattle.contract_file.specs.declared.links.Condition.{Condition}
 
 -- the condition that an entry is, and the number of the next
-abbrev pub condition_of : Entry → Option (Condition × ℕ)
-condition_of (entries.Condition field test next) = Some (record { field = field; test = test }, next)
-condition_of _ = None
+abbrev pub condition_link : Entry → Option (Condition × ℕ)
+condition_link (entries.Condition field test next) = Some (record { field = field; test = test }, next)
+condition_link _ = None
 
 -- the argument that an entry is, and the number of the next
-abbrev pub argument_of : Entry → Option (Filling × ℕ)
-argument_of (entries.Argument slot value next) = Some (record { slot = slot; value = value }, next)
-argument_of _ = None
+abbrev pub argument_link : Entry → Option (Filling × ℕ)
+argument_link (entries.Argument slot value next) = Some (record { slot = slot; value = value }, next)
+argument_link _ = None
 
 -- a link with those behind it, or none
 abbrev pub link_and : {L : Type 0} → (ℕ → List L) → Option (L × ℕ) → List L

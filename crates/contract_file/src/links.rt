@@ -2,7 +2,7 @@
 ghost use Rattle.std.specs.Prelude.{◌≡◌, ℕ, Option};
 ghost use Rattle.std.specs.Iterator.{YieldsFirst, item_count};
 ghost use Rattle.entries.specs.declared.entries.Entry.{Entry};
-ghost use Rattle.contract_file.specs.Links.{condition_of, argument_of, links_from};
+ghost use Rattle.contract_file.specs.Links.{condition_link, argument_link, links_from};
 
 use crate::files::File;
 use entries::Entry;
@@ -27,7 +27,7 @@ pub trait Link: Sized + Drop {
 }
 
 impl Link for Condition {
-    ghost link_of = { condition_of };
+    ghost link_of = { condition_link };
 
     fn of(this: Entry) -> Option<(Condition, u16)> {
         match this {
@@ -38,7 +38,7 @@ impl Link for Condition {
 }
 
 impl Link for Filling {
-    ghost link_of = { argument_of };
+    ghost link_of = { argument_link };
 
     fn of(this: Entry) -> Option<(Filling, u16)> {
         match this {
@@ -48,26 +48,39 @@ impl Link for Filling {
     }
 }
 
-/// The links of a chain that are left, seen as their list.
+/// The links of a chain that are left, seen as their list. The chain ends at the first entry that is no such link.
 #[derive(Drop)]
 pub struct Links<'a, L: Link> {
     file: &'a File,
     at: u16,
     most: usize,
-    holds: PhantomData<L>,
+    link: PhantomData<L>,
 }
 
 impl<'a, L: Link> Model for Links<'a, L> {
     ghost use Rattle.std.specs.Prelude.{List};
+    ghost use Rattle.contract_file.specs.Links.{links_from};
 
     ghost Value = { List L };
-
-    ghost use Rattle.contract_file.specs.Links.{links_from};
 
     ghost view = { λ it. links_from L.link_of it.file.now.entries it.most it.at };
 }
 
-impl<'a, L: Link> Iterator for Links<'a, L> {
+impl<'a, L: Link> Links<'a, L> {
+    /// The links from an entry on, at most so many.
+    fn new(file: &'a File, first: u16, most: usize) -> Links<'a, L>
+        ensures { result ≡ links_from L.link_of file.now.entries most first }
+    {
+        Links {
+            file,
+            at: first,
+            most,
+            link: PhantomData,
+        }
+    }
+}
+
+impl<L: Link> Iterator for Links<'_, L> {
     type Item = L;
 
     ghost next_gives = { YieldsFirst (λ links. links) };
@@ -83,27 +96,17 @@ impl<'a, L: Link> Iterator for Links<'a, L> {
 }
 
 impl File {
-    /// The conditions of a chain from its first one on. Fields rise along it, so it has at most one for each.
+    /// The conditions of a chain from its first one on. Fields rise along it, so it has at most a link for each.
     pub fn conditions(&self, first: u16) -> Links<'_, Condition>
-        ensures { result ≡ links_from condition_of self.now.entries FIELDS first }
+        ensures { result ≡ links_from condition_link self.now.entries FIELDS first }
     {
-        Links {
-            file: self,
-            at: first,
-            most: FIELDS,
-            holds: PhantomData,
-        }
+        Links::new(self, first, FIELDS)
     }
 
-    /// The arguments of a chain from its first one on. Slots rise along it, so it has at most one for each.
+    /// The arguments of a chain from its first one on. Slots rise along it, so it has at most a link for each.
     pub fn arguments(&self, first: u16) -> Links<'_, Filling>
-        ensures { result ≡ links_from argument_of self.now.entries SLOTS first }
+        ensures { result ≡ links_from argument_link self.now.entries SLOTS first }
     {
-        Links {
-            file: self,
-            at: first,
-            most: SLOTS,
-            holds: PhantomData,
-        }
+        Links::new(self, first, SLOTS)
     }
 }

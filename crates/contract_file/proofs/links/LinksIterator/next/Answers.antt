@@ -1,5 +1,4 @@
-use Rattle.std.proofs.Common.{◌≡◌, ◌+◌, [], Some, None, sym, ap, ◌∙◌, arith, rules, length}
-use Rattle.entries.specs.Parts.{at}
+use Rattle.std.proofs.Common.{◌≡◌, sym, ap, ◌∙◌, arith, rules, length}
 use Rattle.contract_file.proofs.Linking.{links_none, links_ended, links_more}
 use Rattle.contract_file.proofs.links.LinksIterator.next.Goals as goal
 
