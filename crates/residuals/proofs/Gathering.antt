@@ -19,7 +19,7 @@ one_link : (more : ℕ → List (Option Test) → List (Option Test)) (behind : 
     → (e : Entry) (tests : List (Option Test)) → gathered_by more e tests ≡ with_tests (link_and behind (condition_link e)) tests
 one_link more behind alike Lost tests = refl
 one_link more behind alike Done tests = refl
-one_link more behind alike (Step d t cs u v) tests = refl
+one_link more behind alike (Step w t cs) tests = refl
 one_link more behind alike (Choice l r) tests = refl
 one_link more behind alike (Both l r) tests = refl
 one_link more behind alike (Then l r) tests = refl

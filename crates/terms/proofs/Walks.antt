@@ -13,7 +13,7 @@ use Rattle.openings.specs.Clauses.{listed_by, listed_from}
 one_link : (more : ℕ → Arguments) (behind : ℕ → List Filling) → ((i : ℕ) → more i ≡ behind i) → (e : Entry) → listed_by more e ≡ link_and behind (argument_link e)
 one_link more behind alike Lost = refl
 one_link more behind alike Done = refl
-one_link more behind alike (Step d t cs u v) = refl
+one_link more behind alike (Step w t cs) = refl
 one_link more behind alike (Choice l r) = refl
 one_link more behind alike (Both l r) = refl
 one_link more behind alike (Then l r) = refl
