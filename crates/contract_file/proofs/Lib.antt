@@ -10,3 +10,4 @@ pub mod Held
 pub mod OneAnswer
 pub mod Freshly
 pub mod Facts
+pub mod Linking

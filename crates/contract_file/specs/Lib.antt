@@ -11,3 +11,4 @@ pub mod Questions
 pub mod Sound
 pub mod Fresh
 pub mod Unique
+pub mod Links

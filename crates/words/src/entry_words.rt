@@ -1,10 +1,10 @@
 //! An entry in words, with the chain that hangs on it.
 use crate::names::Names;
 use crate::test_words::{FillingWords, TestWords};
-use contract_file::File;
+use contract_file::{Condition, File};
 use days::{Counted, Window};
 use entries::Entry;
-use kinds::{FIELDS, SLOTS};
+use kinds::Filling;
 use std::fmt;
 
 /// An entry of a file, by its number.
@@ -15,33 +15,25 @@ pub struct EntryWords<'a> {
     pub number: u16,
 }
 
-/// Writes the conditions of a step: fields rise along their chain, so there are four at most.
+/// Writes the conditions of a step.
 fn conditions<W: fmt::Write>(
     names: Names,
     file: &File,
     first: u16,
     f: &mut fmt::Formatter<W>,
 ) -> fmt::Result {
-    let mut at = first;
-    for _ in 0..FIELDS {
-        if let Entry::Condition { field, test, next } = file.at(at) {
-            let asked = TestWords { names, field, test };
-            write!(f, ", {asked}")?;
-            at = next;
-        }
+    for Condition { field, test } in file.conditions(first) {
+        let asked = TestWords { names, field, test };
+        write!(f, ", {asked}")?;
     }
     Ok(())
 }
 
-/// Writes the arguments of a call: slots rise along their chain, so there are eight at most.
+/// Writes the arguments of a call.
 fn arguments<W: fmt::Write>(file: &File, first: u16, f: &mut fmt::Formatter<W>) -> fmt::Result {
-    let mut at = first;
-    for _ in 0..SLOTS {
-        if let Entry::Argument { slot, value, next } = file.at(at) {
-            let filled = FillingWords { slot, value };
-            write!(f, ", {filled}")?;
-            at = next;
-        }
+    for Filling { slot, value } in file.arguments(first) {
+        let filled = FillingWords { slot, value };
+        write!(f, ", {filled}")?;
     }
     Ok(())
 }
