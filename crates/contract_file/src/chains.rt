@@ -19,11 +19,7 @@ pub fn template_at(file: &File, place: u8) -> u16
     if place == 0 {
         return 0;
     }
-    let mut template = file.templates;
-    for _k in 1..place {
-        template = file.at(template).next_template();
-    }
-    template
+    (1..place).fold(file.templates, |template, _| file.at(template).next_template())
 }
 
 /// Does a template stand on the chain, at the place that its number tells?
