@@ -2,13 +2,12 @@
 use Rattle.std.proofs.Common.{◌≡◌, ℕ, ◌<◌, ◌≤◌, ◌⊎◌, refl, inl, inr, arith}
 use Rattle.std.proofs.lemmas.Bool.{cases_eq}
 use Rattle.entries.specs.declared.parts.Sort.{Sort}
-use Rattle.contract_file.specs.declared.reach.Way.{Way}
-use Rattle.contract_file.specs.declared.reach.Way.TheVariants.{Sides, Pointers}
 use Rattle.entries.specs.declared.entries.Entry.{Entry}
 use Rattle.entries.specs.declared.entries.Entry.TheVariants.{Lost, Done, Step, Choice, Both, Then, Call, Template, Condition, Argument}
+use Rattle.entries.specs.Parts.{sides, pointers}
 use Rattle.contract_file.specs.declared.files.File.{File}
 use Rattle.contract_file.specs.Pointing.{Leads, EndsOrLeads, EntryLeads}
-use Rattle.contract_file.specs.Reach.{onward}
+use Rattle.contract_file.specs.Reach.{Follows}
 
 module _ (f : File) (i : ℕ) where
   abbrev pub Ahead : ℕ → Type 0
@@ -23,24 +22,33 @@ module _ (f : File) (i : ℕ) where
   nowhere : Ahead 0 × Ahead 0
   nowhere = (inl refl, inl refl)
 
-  pub ahead : (way : Way) (e : Entry) → EntryLeads f i e → Ahead (onward way e).0 × Ahead (onward way e).1
-  ahead Sides Lost h = nowhere
-  ahead Sides Done h = nowhere
-  ahead Sides (Step c t cs u v) h = nowhere
-  ahead Sides (Choice l r) h = (led h.0, led h.1)
-  ahead Sides (Both l r) h = (led h.0, led h.1)
-  ahead Sides (Then l r) h = (led h.0, led h.1)
-  ahead Sides (Call t args) h = nowhere
-  ahead Sides (Template k b n) h = nowhere
-  ahead Sides (Condition k t n) h = nowhere
-  ahead Sides (Argument k v n) h = nowhere
-  ahead Pointers Lost h = nowhere
-  ahead Pointers Done h = nowhere
-  ahead Pointers (Step c t cs u v) h = (led h.0, led_or_none _ _ h.1)
-  ahead Pointers (Choice l r) h = (led h.0, led h.1)
-  ahead Pointers (Both l r) h = (led h.0, led h.1)
-  ahead Pointers (Then l r) h = (led h.0, led h.1)
-  ahead Pointers (Call t args) h = (led_or_none _ _ h, inl refl)
-  ahead Pointers (Template k b n) h = (led h.0, led_or_none _ _ h.1)
-  ahead Pointers (Condition k t n) h = (led_or_none _ _ h, inl refl)
-  ahead Pointers (Argument k v n) h = (led_or_none _ _ h, inl refl)
+  ahead : (e : Entry) → EntryLeads f i e → Ahead (pointers e).0 × Ahead (pointers e).1
+  ahead Lost h = nowhere
+  ahead Done h = nowhere
+  ahead (Step c t cs u v) h = (led h.0, led_or_none _ _ h.1)
+  ahead (Choice l r) h = (led h.0, led h.1)
+  ahead (Both l r) h = (led h.0, led h.1)
+  ahead (Then l r) h = (led h.0, led h.1)
+  ahead (Call t args) h = (led_or_none _ _ h, inl refl)
+  ahead (Template k b n) h = (led h.0, led_or_none _ _ h.1)
+  ahead (Condition k t n) h = (led_or_none _ _ h, inl refl)
+  ahead (Argument k v n) h = (led_or_none _ _ h, inl refl)
+
+  pub ahead_by : (way : Entry → ℕ × ℕ) → Follows way → (e : Entry) → EntryLeads f i e → Ahead (way e).0 × Ahead (way e).1
+  ahead_by way follows e h = elim (follows e) [ inl is ↦ rw is nowhere | inr is ↦ rw is (ahead e h) ]
+
+-- the two ways that there are
+pub pointers_follow : Follows pointers
+pointers_follow e = inr refl
+
+pub sides_follow : Follows sides
+sides_follow Lost = inl refl
+sides_follow Done = inl refl
+sides_follow (Step c t cs u v) = inl refl
+sides_follow (Choice l r) = inr refl
+sides_follow (Both l r) = inr refl
+sides_follow (Then l r) = inr refl
+sides_follow (Call t args) = inl refl
+sides_follow (Template k b n) = inl refl
+sides_follow (Condition k t n) = inl refl
+sides_follow (Argument k v n) = inl refl

@@ -28,6 +28,9 @@ impl File {
     pub fn at(&self, number: u16) -> Entry
         ensures { result ≡ at self.now.entries number }
     {
-        self.entries.get(usize::from(number)).copied().unwrap_or(Entry::Lost)
+        self.entries
+            .get(usize::from(number))
+            .copied()
+            .unwrap_or(Entry::Lost)
     }
 }

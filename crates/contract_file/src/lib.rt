@@ -6,6 +6,7 @@ mod calls;
 mod chains;
 mod faults;
 mod files;
+mod leading;
 mod marks;
 mod places;
 mod pointers;
