@@ -25,7 +25,7 @@ module _ (f : File) (i : ℕ) where
   ahead : (e : Entry) → EntryLeads f i e → Ahead (pointers e).0 × Ahead (pointers e).1
   ahead Lost h = nowhere
   ahead Done h = nowhere
-  ahead (Step c t cs u v) h = (led h.0, led_or_none _ _ h.1)
+  ahead (Step w t cs) h = (led h.0, led_or_none _ _ h.1)
   ahead (Choice l r) h = (led h.0, led h.1)
   ahead (Both l r) h = (led h.0, led h.1)
   ahead (Then l r) h = (led h.0, led h.1)
@@ -44,7 +44,7 @@ pointers_follow e = inr refl
 pub sides_follow : Follows sides
 sides_follow Lost = inl refl
 sides_follow Done = inl refl
-sides_follow (Step c t cs u v) = inl refl
+sides_follow (Step w t cs) = inl refl
 sides_follow (Choice l r) = inr refl
 sides_follow (Both l r) = inr refl
 sides_follow (Then l r) = inr refl

@@ -78,7 +78,7 @@ module _ (es : List Entry) where
   pub one_noted : (floors : List (Option ℕ)) (i : ℕ) (e : Entry) → at es i ≡ e → Floors es i floors → Floors es (i + 1) (noted e floors)
   one_noted floors i Lost is f = unchained floors i (λ k p. subst (λ (x : Entry). Precedes x k) is p) f
   one_noted floors i Done is f = unchained floors i (λ k p. subst (λ (x : Entry). Precedes x k) is p) f
-  one_noted floors i (Step c t cs u v) is f = unchained floors i (λ k p. subst (λ (x : Entry). Precedes x k) is p) f
+  one_noted floors i (Step w t cs) is f = unchained floors i (λ k p. subst (λ (x : Entry). Precedes x k) is p) f
   one_noted floors i (Choice l r) is f = unchained floors i (λ k p. subst (λ (x : Entry). Precedes x k) is p) f
   one_noted floors i (Both l r) is f = unchained floors i (λ k p. subst (λ (x : Entry). Precedes x k) is p) f
   one_noted floors i (Then l r) is f = unchained floors i (λ k p. subst (λ (x : Entry). Precedes x k) is p) f

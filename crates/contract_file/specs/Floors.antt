@@ -18,7 +18,7 @@ raised marks k n = slice_set marks k (Some (higher_of (mark marks k) n))
 abbrev pub noted : Entry → List (Option ℕ) → List (Option ℕ)
 noted Lost floors = floors
 noted Done floors = floors
-noted (Step calendar tail conditions u v) floors = floors
+noted (Step w tail conditions) floors = floors
 noted (Choice left right) floors = floors
 noted (Both left right) floors = floors
 noted (Then left right) floors = floors

@@ -23,7 +23,7 @@ lowered marks k n = slice_set marks k (Some (lower_of (mark marks k) n))
 abbrev pub begun : Entry → List (Option ℕ) → List (Option ℕ)
 begun Lost marks = marks
 begun Done marks = marks
-begun (Step calendar tail conditions u v) marks = marks
+begun (Step w tail conditions) marks = marks
 begun (Choice left right) marks = marks
 begun (Both left right) marks = marks
 begun (Then left right) marks = marks

@@ -11,6 +11,7 @@ use crate::faults::Fault;
 use crate::leading::LeadingFile;
 use crate::marks::Marks;
 use crate::reach::lowest;
+use days::Counted;
 use entries::Entry;
 use kinds::LAST_DAY;
 
@@ -20,12 +21,9 @@ fn window_right(leading: &LeadingFile, reached: &Marks, i: u16) -> bool
     ensures { Decides result (Windows leading.now.file.now i) }
 {
     match leading.file.at(i) {
-        Entry::Step {
-            calendar,
-            first,
-            last,
-            ..
-        } => { first <= last && last <= LAST_DAY && (!calendar || reached.of(i).is_none()) }
+        Entry::Step { window, .. } => window.first <= window.last
+            && window.last <= LAST_DAY
+            && (matches!(window.counted, Counted::FromBase) || reached.of(i).is_none()),
         _ => true,
     }
 }
