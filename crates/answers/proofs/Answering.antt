@@ -5,11 +5,10 @@ use Rattle.std.proofs.lemmas.Bool.Decides.{Decides-eqb}
 use Rattle.kinds.specs.declared.fields.Test.{Test}
 use Rattle.entries.specs.declared.entries.Entry.{Entry}
 use Rattle.entries.specs.declared.entries.Entry.TheVariants.{Lost}
-use Rattle.entries.specs.Parts.{at}
+use Rattle.entries.specs.Parts.{at, sides, pointers}
 use Rattle.contract_file.specs.declared.faults.Fault.{Fault}
 use Rattle.contract_file.specs.declared.faults.Fault.TheVariants as fault
 use Rattle.contract_file.specs.declared.files.File.{File}
-use Rattle.contract_file.specs.declared.reach.Way.TheVariants as way
 use Rattle.contract_file.specs.Asking.{Question, Answers}
 use Rattle.contract_file.specs.Files.{decoded}
 use Rattle.contract_file.specs.Pointing.{Pointers, EntryLeads}
@@ -18,13 +17,13 @@ use Rattle.contract_file.specs.Clauses.{CallRight, Calls, WindowRight, Windows}
 use Rattle.contract_file.specs.Questions.{RightLength, EntriesListed}
 use Rattle.contract_file.proofs.OneAnswer.{one_answer}
 use Rattle.contract_file.proofs.Passing.{Below, none_yet, one_more}
+use Rattle.contract_file.proofs.Everywhere.{past_end}
 use Rattle.contract_file.proofs.Tables.{table_long, table_nowhere, table_past}
 use Rattle.openings.proofs.Unfolding.{Leading}
 use Rattle.answers.specs.Approving.{Admitted, Conditions, checking}
 use Rattle.answers.specs.Computed.{length_test, version_test, listed_test, pointers_test, chained_test, reached, calls_test, windows_test, conditions_test, size_test, computed}
 use Rattle.answers.proofs.Searching.{found_whole, found_each, ask_next}
 use Rattle.answers.proofs.Deciding.{decides_leb, decides_length, decides_version, decides_listed, decides_pointers, decides_chained, decides_conditions}
-use Rattle.answers.proofs.Numbers.{small_numbers}
 use Rattle.answers.proofs.Reaching.{decides_calls, decides_windows}
 use Rattle.answers.proofs.Sizing.{decides_size}
 
@@ -37,7 +36,7 @@ module _ (number : ℕ) (admits : ℕ → Test → Bool) (day : ℕ) (b : List �
 
   -- past the last place, what holds of lost is asked
   at_lost : (P : Entry → Type 0) (i : ℕ) → 257 ≤ i → P Lost → P (at f.entries i)
-  at_lost P i ge h = subst P (sym (get_or_past f.entries i Lost (omega (arith, table_long b)))) h
+  at_lost P i ge h = past_end f.entries P h i (omega (arith, table_long b))
 
   past_pointers : (i : ℕ) → 257 ≤ i → Pointers f i
   past_pointers i ge = ((λ head. absurd (omega arith)), at_lost (EntryLeads f i) i ge tt)
@@ -62,8 +61,8 @@ module _ (number : ℕ) (admits : ℕ → Test → Bool) (day : ℕ) (b : List �
       ask_next questions 4 _ _ (omega arith) below₄ (found_each (Pointers f) (pointers_test f) fault.Pointer 4 (λ i _. decides_pointers f i) past_pointers (λ _. refl) (λ _. refl)) (λ below₅.
       let up = leading 5 (omega arith) below₅ in
       ask_next questions 5 _ _ (omega arith) below₅ (found_each (Chained f) (chained_test f) fault.Chain 5 (λ i _. decides_chained f i) past_chained (λ _. refl) (λ _. refl)) (λ below₆.
-      ask_next questions 6 _ _ (omega arith) below₆ (found_each (Calls f) (calls_test f (reached way.Sides f)) fault.Call 6 (decides_calls f up (small_numbers b)) (λ i ge. at_lost (CallRight f i) i ge tt) (λ _. refl) (λ _. refl)) (λ below₇.
-      ask_next questions 7 _ _ (omega arith) below₇ (found_each (Windows f) (windows_test f (reached way.Pointers f)) fault.Window 7 (decides_windows f up (small_numbers b)) (λ i ge. at_lost (WindowRight f i) i ge tt) (λ _. refl) (λ _. refl)) (λ below₈.
+      ask_next questions 6 _ _ (omega arith) below₆ (found_each (Calls f) (calls_test f (reached sides f)) fault.Call 6 (λ i _. decides_calls f up i) (λ i ge. at_lost (CallRight f i) i ge tt) (λ _. refl) (λ _. refl)) (λ below₇.
+      ask_next questions 7 _ _ (omega arith) below₇ (found_each (Windows f) (windows_test f (reached pointers f)) fault.Window 7 (λ i _. decides_windows f up i) (λ i ge. at_lost (WindowRight f i) i ge tt) (λ _. refl) (λ _. refl)) (λ below₈.
       ask_next questions 8 _ _ (omega arith) below₈ (found_whole _ _ fault.Kind 8 (Decides-eqb f.kind number) refl refl) (λ below₉.
       ask_next questions 9 _ _ (omega arith) below₉ (found_each (Conditions admits f) (conditions_test admits f) fault.Inadmissible 9 (λ i _. decides_conditions admits f i) (λ i ge. at_lost (Admitted admits) i ge tt) (λ _. refl) (λ _. refl)) (λ below₁₀.
       ask_next questions 10 _ _ (omega arith) below₁₀ (found_whole _ (size_test f) fault.Size 10 (decides_size f up (table_past b) day) refl refl) (λ below₁₁.

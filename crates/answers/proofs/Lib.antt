@@ -1,6 +1,5 @@
 pub mod Searching
 pub mod Deciding
-pub mod Numbers
 pub mod Reaching
 pub mod Sizing
 pub mod Answering

@@ -1,7 +1,7 @@
 -- What check answers, computed from the bytes: each question as a test, asked in the order of their numbers. The first that fails
 -- gives the fault, with the lowest entry that fails it. Assumes nothing. Where a test keeps a table, as those of questions 6, 7 and 10
 -- do, the table is right once the questions before are passed, which is when it is asked.
-use Rattle.std.specs.Prelude.{ℕ, zero, suc, ◌+◌, ◌*◌, Bool, true, false, cond, not, ◌&&◌, ◌||◌, List, [], ◌∷◌, map, length, replicate, is_some, Some, None, Ok, Err, Option, Result, ◌==◌, nat_le, nat_lt, slice_index, slice_set}
+use Rattle.std.specs.Prelude.{ℕ, zero, suc, ◌+◌, ◌*◌, Bool, true, false, cond, not, ◌&&◌, ◌||◌, List, [], ◌∷◌, map, length, replicate, is_none, is_some, Some, None, Ok, Err, Option, Result, ◌==◌, nat_le, nat_lt, slice_index, slice_set}
 use Rattle.std.specs.List.{range_with_len}
 use Rattle.kinds.specs.declared.fields.Test.{Test}
 use Rattle.days.specs.Windows.{by_calendar}
@@ -10,16 +10,14 @@ use Rattle.entries.specs.declared.parts.Sort.TheVariants as sort
 use Rattle.entries.specs.declared.entries.Entry.{Entry}
 use Rattle.entries.specs.declared.entries.Entry.TheVariants.{Lost, Done, Step, Choice, Both, Then, Call, Template, Condition, Argument}
 use Rattle.entries.specs.Layout.{entry_of}
-use Rattle.entries.specs.Parts.{at, sort_of, rank}
+use Rattle.entries.specs.Parts.{at, sort_of, rank, sides, pointers}
 use Rattle.contract_file.specs.declared.faults.Fault.{Fault}
 use Rattle.contract_file.specs.declared.faults.Fault.TheVariants as fault
 use Rattle.contract_file.specs.declared.files.File.{File}
-use Rattle.contract_file.specs.declared.reach.Way.{Way}
-use Rattle.contract_file.specs.declared.reach.Way.TheVariants as way
 use Rattle.contract_file.specs.Files.{count_of, bytes_of, decoded}
 use Rattle.contract_file.specs.Chains.{chain}
-use Rattle.contract_file.specs.Reach.{onward}
-use Rattle.contract_file.specs.Pass.{lowered, begun}
+use Rattle.contract_file.specs.Marks.{mark}
+use Rattle.contract_file.specs.Pass.{begun, handed_on}
 use Rattle.openings.specs.declared.shapes.Shape.{Shape}
 use Rattle.openings.specs.Clauses.{body_at}
 use Rattle.openings.specs.Shapes.{size, lost_shape}
@@ -122,40 +120,46 @@ module _ (f : File) where
   abbrev pub chained_test : ℕ → Bool
   chained_test i = numbered_test f i (at f.entries i) && rising_test i (at f.entries i)
 
--- For questions 6 and 7: the lowest template that reaches each entry, and 256 where none does. Pointers lead up, so one pass from the
--- first entry to the last is enough: a template reaches its body, and what reaches an entry reaches what is onward from it.
-abbrev pub spread : Way → Entry → ℕ → List ℕ → List ℕ
-spread way e i table = lowered (lowered table (onward way e).0 (slice_index table i)) (onward way e).1 (slice_index table i)
+-- For questions 6 and 7: each entry is marked with the lowest template that reaches it, if one does, where a way tells which pointers of
+-- an entry are followed. Pointers lead up, so one pass from the first entry to the last is enough: a template reaches its body, and what
+-- reaches an entry reaches what is onward from it.
+abbrev pub spread : (Entry → ℕ × ℕ) → Entry → ℕ → List (Option ℕ) → List (Option ℕ)
+spread way e i marks = handed_on (way e) (mark marks i) marks
 
 -- the pass over the entries below i
-unfoldable pub reached_below : Way → List Entry → ℕ → List ℕ
-reached_below way es zero = replicate 257 256
+unfoldable pub reached_below : (Entry → ℕ × ℕ) → List Entry → ℕ → List (Option ℕ)
+reached_below way es zero = replicate 257 None
 reached_below way es (suc i) = spread way (at es i) i (begun (at es i) (reached_below way es i))
 
-abbrev pub reached : Way → File → List ℕ
+abbrev pub reached : (Entry → ℕ × ℕ) → File → List (Option ℕ)
 reached way f = reached_below way f.entries 257
 
+-- less than a mark; each number is less than none
+abbrev pub below_mark : ℕ → Option ℕ → Bool
+below_mark n None = true
+below_mark n (Some m) = nat_lt n m
+
 -- 6: a call names a template on the chain, and one below each in which it is bare
-abbrev pub call_test : File → List ℕ → ℕ → Entry → Bool
+abbrev pub call_test : File → List (Option ℕ) → ℕ → Entry → Bool
 call_test f bare i Lost = true
 call_test f bare i Done = true
 call_test f bare i (Step w tail conditions) = true
 call_test f bare i (Choice left right) = true
 call_test f bare i (Both left right) = true
 call_test f bare i (Then left right) = true
-call_test f bare i (Call template arguments) = nat_lt 0 (chain f template) && nat_lt template (slice_index bare i)
+call_test f bare i (Call template arguments) = nat_lt 0 (chain f template) && below_mark template (mark bare i)
 call_test f bare i (Template number body next) = true
 call_test f bare i (Condition field test next) = true
 call_test f bare i (Argument slot value next) = true
 
-abbrev pub calls_test : File → List ℕ → ℕ → Bool
+abbrev pub calls_test : File → List (Option ℕ) → ℕ → Bool
 calls_test f bare i = call_test f bare i (at f.entries i)
 
 -- 7: a step's days, and no template reaches a calendar window
-abbrev pub window_test : List ℕ → ℕ → Entry → Bool
+abbrev pub window_test : List (Option ℕ) → ℕ → Entry → Bool
 window_test reach i Lost = true
 window_test reach i Done = true
-window_test reach i (Step w tail conditions) = nat_le w.first w.last && nat_le w.last 65535 && (not (by_calendar w.counted) || nat_le 256 (slice_index reach i))
+window_test reach i (Step w tail conditions) = nat_le w.first w.last && nat_le w.last 65535 && (not (by_calendar w.counted) || is_none (mark reach i))
 window_test reach i (Choice left right) = true
 window_test reach i (Both left right) = true
 window_test reach i (Then left right) = true
@@ -164,7 +168,7 @@ window_test reach i (Template number body next) = true
 window_test reach i (Condition field test next) = true
 window_test reach i (Argument slot value next) = true
 
-abbrev pub windows_test : File → List ℕ → ℕ → Bool
+abbrev pub windows_test : File → List (Option ℕ) → ℕ → Bool
 windows_test f reach i = window_test reach i (at f.entries i)
 
 -- 9: an entry is no condition, or one that the kind admits
@@ -233,8 +237,8 @@ module _ (number : ℕ) (admits : ℕ → Test → Bool) (day : ℕ) where
       ∷ each (listed_test b) fault.Unlisted
       ∷ each (pointers_test f) fault.Pointer
       ∷ each (chained_test f) fault.Chain
-      ∷ each (calls_test f (reached way.Sides f)) fault.Call
-      ∷ each (windows_test f (reached way.Pointers f)) fault.Window
+      ∷ each (calls_test f (reached sides f)) fault.Call
+      ∷ each (windows_test f (reached pointers f)) fault.Window
       ∷ unless (f.kind == number) fault.Kind
       ∷ each (conditions_test admits f) fault.Inadmissible
       ∷ unless (size_test f) fault.Size

@@ -5,7 +5,7 @@ ghost use Rattle.contract_file.specs.Asking.{Asked, Answers};
 ghost use Rattle.openings.specs.Shapes.{Known, openings_of};
 ghost use Rattle.answers.specs.Approving.{Admitted, Conditions, approving};
 
-use contract_file::{Fault, File, PLACES, ReadFile};
+use contract_file::{Fault, File, PLACES, ReadFile, ask_each};
 use entries::Entry;
 use kinds::{Kind, LAST_DAY};
 use openings::{MOST_NODES, Shape, openings, shape_at};
@@ -24,13 +24,7 @@ fn admitted<K: Kind>(kind: &K, this: Entry) -> bool
 fn ask_conditions<K: Kind>(file: &File, kind: &K) -> Result<(), Fault>
     ensures { Asked (Conditions K.Kind.meaning.admits file.now) Inadmissible result }
 {
-    let entries: &[Entry] = &file.entries;
-    for (i, entry) in entries.iter().enumerate() {
-        if !admitted(kind, *entry) {
-            return Err(Fault::Inadmissible(i as u16));
-        }
-    }
-    Ok(())
+    ask_each(|i| admitted(kind, file.at(i)), Fault::Inadmissible)
 }
 
 /// Is the file of this kind, with conditions that the kind admits, the contract small enough when it is opened,

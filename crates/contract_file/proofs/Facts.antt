@@ -13,7 +13,8 @@ use Rattle.days.specs.declared.windows.Window.{Window}
 use Rattle.entries.specs.declared.entries.Entry.TheVariants.{Lost, Done, Step, Choice, Both, Then, Call, Template, Condition, Argument}
 use Rattle.entries.specs.Parts.{at, Listed}
 use Rattle.contract_file.specs.declared.files.File.{File}
-use Rattle.contract_file.specs.Pointing.{Leads, EndsOrLeads, EntryLeads, HeadLeads}
+use Rattle.contract_file.specs.Asking.{Passed}
+use Rattle.contract_file.specs.Pointing.{Leads, EndsOrLeads, EntryLeads, HeadLeads, Pointers}
 use Rattle.contract_file.specs.Chains.{Numbered, Rising}
 use Rattle.contract_file.specs.Clauses.{RightCall, CallRight, RightWindow, WindowRight}
 use Rattle.contract_file.specs.Sound.{Parsed, Sound}
@@ -43,6 +44,10 @@ module _ (f : File) where
         values = Π_prop (λ k. listed_fact (at f.entries k)) p.values q.values i;
       }
 
+  -- what is known of a parsed file
+  pub known_parsed : ∥ Parsed f ∥₁ → Parsed f
+  known_parsed h = ∥∥₁_elim h parsed_fact (λ p. p)
+
   leads_fact : (from to : ℕ) (s : Sort) → IsProp (Leads f from to s)
   leads_fact from to s p q =
       λ i. record { up = le_prop p.up q.up i; there = le_prop p.there q.there i; right = ≡_prop (sort-code.the_row).coded _ _ p.right q.right i }
@@ -61,6 +66,16 @@ module _ (f : File) where
   entry_fact from (Template k b n) = ×_prop (leads_fact _ _ _) (ends_fact _ _ _)
   entry_fact from (Condition k t n) = ends_fact _ _ _
   entry_fact from (Argument k v n) = ends_fact _ _ _
+
+  head_fact : IsProp (HeadLeads f)
+  head_fact = ×_prop (leads_fact _ _ _) (ends_fact _ _ _)
+
+  pointers_fact : IsProp (Passed (Pointers f))
+  pointers_fact = Π_prop (λ k. ×_prop (Π_prop (λ _. head_fact)) (entry_fact k (at f.entries k)))
+
+  -- what is known of a file whose pointers lead
+  pub known_pointers : ∥ Passed (Pointers f) ∥₁ → Passed (Pointers f)
+  known_pointers h = ∥∥₁_elim h pointers_fact (λ p. p)
 
   rising_fact : (i : ℕ) (e : Entry) → IsProp (Rising f i e)
   rising_fact i Lost = hlevel props
@@ -107,11 +122,10 @@ module _ (f : File) where
 
   pub sound_fact : IsProp (Sound f)
   sound_fact p q =
-      let head : IsProp (HeadLeads f) = ×_prop (leads_fact _ _ _) (ends_fact _ _ _) in
       let numbered : (i : ℕ) (e : Entry) → IsProp (Numbered f i e) = λ i e. Π_prop (λ _. Π_prop (λ _. Π_prop (λ _. Π_prop (λ _. ≡_prop coded_ℕ _ _)))) in
       λ i. record {
         parsed = parsed_fact p.parsed q.parsed i;
-        pointers = Π_prop (λ k. ×_prop (Π_prop (λ _. head)) (entry_fact k (at f.entries k))) p.pointers q.pointers i;
+        pointers = pointers_fact p.pointers q.pointers i;
         chains = Π_prop (λ k. ×_prop (numbered k (at f.entries k)) (rising_fact k (at f.entries k))) p.chains q.chains i;
         calls = Π_prop (λ k. call_fact k (at f.entries k)) p.calls q.calls i;
         windows = Π_prop (λ k. window_fact k (at f.entries k)) p.windows q.windows i;

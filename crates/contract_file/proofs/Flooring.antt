@@ -1,105 +1,103 @@
 -- The pass along chains finds what each entry has to exceed.
-use Rattle.std.proofs.Common.{◌≡◌, ℕ, ◌+◌, ◌<◌, ◌≤◌, max, ◌≢◌, List, length, get_or, replicate, sym, refl, subst, inl, inr, arith, length-set, get_or-set_other, get_or-set_same}
-use Rattle.std.proofs.lemmas.List.{get_or-replicate}
+use Rattle.std.proofs.Common.{◌≡◌, ℕ, ◌+◌, ◌<◌, ◌≤◌, max, ◌≢◌, Bool, List, Some, None, Option, Decides, length, replicate, sym, refl, ap, ◌∙◌, subst, inl, inr, arith, length-set, get_or-set_other, get_or-set_same}
+use Rattle.std.proofs.lemmas.List.{get_or_past}
 use Rattle.std.proofs.lemmas.Bool.{cases_eq, cases_lt}
+use Rattle.std.proofs.lemmas.Bool.Decides.{Decides-like}
 use Rattle.entries.specs.declared.entries.Entry.{Entry}
 use Rattle.entries.specs.declared.entries.Entry.TheVariants.{Lost, Done, Step, Choice, Both, Then, Call, Template, Condition, Argument}
 use Rattle.entries.specs.Parts.{at, rank, Precedes}
 use Rattle.contract_file.specs.declared.files.File.{File}
-use Rattle.contract_file.specs.Asking.{Passed}
-use Rattle.contract_file.specs.Pointing.{EntryLeads, Pointers}
 use Rattle.contract_file.specs.Chains.{Above}
-use Rattle.contract_file.specs.Floors.{raised, noted, Floors}
-use Rattle.contract_file.specs.Sound.{Parsed}
+use Rattle.contract_file.specs.Marks.{mark}
+use Rattle.contract_file.specs.Floors.{higher_of, raised, noted, Exceeds, Floors}
+use Rattle.contract_file.proofs.Spreading.{unmarked}
+
+-- what exceeds the higher of a mark and a number exceeds both
+exceeds_both : (o : Option ℕ) (own n : ℕ) → higher_of o own < n → Exceeds o n × (own < n)
+exceeds_both None own n lt = (tt, lt)
+exceeds_both (Some m) own n lt = (omega arith, omega arith)
+
+exceeds_higher : (o : Option ℕ) (own n : ℕ) → Exceeds o n → own < n → higher_of o own < n
+exceeds_higher None own n over lt = lt
+exceeds_higher (Some m) own n over lt = omega arith
 
 module _ (es : List Entry) where
-  pub none_noted : Floors es 1 (replicate 257 0)
+  pub none_noted : Floors es 0 (replicate 257 None)
   none_noted = record {
     long = refl;
-    above = λ k n small le j some lt p. absurd (omega arith);
-    least = λ k n small all. omega (arith, get_or-replicate {A = ℕ} 257 k 0 0 small);
+    above = λ k n small over j lt p. absurd (omega arith);
+    least = λ k n small all. rw (unmarked 257 k) tt;
   }
 
   -- an entry that is in no chain
-  unchained : (floors : List ℕ) (i : ℕ) → ((k : ℕ) → Precedes (at es i) k → ⊥) → Floors es i floors → Floors es (i + 1) floors
+  unchained : (floors : List (Option ℕ)) (i : ℕ) → ((k : ℕ) → Precedes (at es i) k → ⊥) → Floors es i floors → Floors es (i + 1) floors
   unchained floors i none f = record {
     long = f.long;
-    above = λ k n small le j some lt p.
+    above = λ k n small over j lt p.
         elim (cases_lt j i) [
-          | inl earlier ↦ f.above k n small le j some earlier p
+          | inl earlier ↦ f.above k n small over j earlier p
           | inr here ↦ let same : j ≡ i = omega arith in absurd (none k (subst (λ (x : ℕ). Precedes (at es x) k) same p))
         ];
-    least = λ k n small all. f.least k n small (λ j some lt. all j some (omega arith));
+    least = λ k n small all. f.least k n small (λ j lt. all j (omega arith));
   }
 
   -- an entry whose next is `next`
-  chained : (floors : List ℕ) (i next n : ℕ) → 0 < i → rank (at es i) ≡ n → Precedes (at es i) next → ((k : ℕ) → Precedes (at es i) k → next ≡ k) → Floors es i floors → Floors es (i + 1) (raised floors next n)
-  chained floors i next own there is to only f = record {
+  chained : (floors : List (Option ℕ)) (i next own : ℕ) → rank (at es i) ≡ own → Precedes (at es i) next → ((k : ℕ) → Precedes (at es i) k → next ≡ k) → Floors es i floors → Floors es (i + 1) (raised floors next own)
+  chained floors i next own is to only f = record {
     long = simp length-set f.long;
-    above = λ k n small le j some lt p.
+    above = λ k n small over j lt p.
         elim (cases_eq k next) [
           | inr ne ↦
               let other : k ≢ next = ne in
-              let was : get_or floors k 0 ≤ n = rw (get_or-set_other) at le in
+              let was : Exceeds (mark floors k) n = rw (get_or-set_other) at over in
               elim (cases_lt j i) [
-                | inl earlier ↦ f.above k n small was j some earlier p
+                | inl earlier ↦ f.above k n small was j earlier p
                 | inr here ↦ let same : j ≡ i = omega arith in absurd (ne (sym (only k (subst (λ (x : ℕ). Precedes (at es x) k) same p))))
               ]
           | inl e ↦
               let inside : next < length floors = omega (arith, f.long) in
-              let now' : get_or (raised floors next own) k 0 ≡ max (get_or floors next 0) (own + 1) = rw (e, get_or-set_same) in
+              let now' : mark (raised floors next own) k ≡ Some (higher_of (mark floors next) own) = rw (e, get_or-set_same) in
+              let both = exceeds_both (mark floors next) own n (subst (λ (o : Option ℕ). Exceeds o n) now' over) in
               elim (cases_lt j i) [
-                | inl earlier ↦ f.above k n small (rw e (omega (arith, le, now'))) j some earlier p
-                | inr here ↦ let same : j ≡ i = omega arith in rw (same, is) (omega (arith, le, now'))
+                | inl earlier ↦ f.above k n small (rw e both.0) j earlier p
+                | inr here ↦ let same : j ≡ i = omega arith in rw (same, is) both.1
               ]
         ];
     least = λ k n small all.
-        let was = f.least k n small (λ j some lt. all j some (omega arith)) in
+        let was = f.least k n small (λ j lt. all j (omega arith)) in
         elim (cases_eq k next) [
           | inr ne ↦ let other : k ≢ next = ne in rw get_or-set_other was
           | inl e ↦
               let inside : next < length floors = omega (arith, f.long) in
-              let low : own < n = rw is at (all i there (omega arith) (rw e to)) in
-              let before : get_or floors next 0 ≤ n = rw e at was in
-              rw (e, get_or-set_same) (omega arith)
+              let low : own < n = rw is at (all i (omega arith) (rw e to)) in
+              rw (e, get_or-set_same) (exceeds_higher (mark floors next) own n (rw e at was) low)
         ];
   }
 
   -- one entry more
-  pub one_noted : (floors : List ℕ) (i : ℕ) (e : Entry) → 0 < i → at es i ≡ e → Floors es i floors → Floors es (i + 1) (noted e floors)
-  one_noted floors i Lost some is f = unchained floors i (λ k p. subst (λ (x : Entry). Precedes x k) is p) f
-  one_noted floors i Done some is f = unchained floors i (λ k p. subst (λ (x : Entry). Precedes x k) is p) f
-  one_noted floors i (Step w t cs) some is f = unchained floors i (λ k p. subst (λ (x : Entry). Precedes x k) is p) f
-  one_noted floors i (Choice l r) some is f = unchained floors i (λ k p. subst (λ (x : Entry). Precedes x k) is p) f
-  one_noted floors i (Both l r) some is f = unchained floors i (λ k p. subst (λ (x : Entry). Precedes x k) is p) f
-  one_noted floors i (Then l r) some is f = unchained floors i (λ k p. subst (λ (x : Entry). Precedes x k) is p) f
-  one_noted floors i (Call t a) some is f = unchained floors i (λ k p. subst (λ (x : Entry). Precedes x k) is p) f
-  one_noted floors i (Template t b n) some is f = unchained floors i (λ k p. subst (λ (x : Entry). Precedes x k) is p) f
-  one_noted floors i (Condition field t n) some is f = chained floors i n field some (rw is) (rw is refl) (λ k p. subst (λ (x : Entry). Precedes x k) is p) f
-  one_noted floors i (Argument slot v n) some is f = chained floors i n slot some (rw is) (rw is refl) (λ k p. subst (λ (x : Entry). Precedes x k) is p) f
+  pub one_noted : (floors : List (Option ℕ)) (i : ℕ) (e : Entry) → at es i ≡ e → Floors es i floors → Floors es (i + 1) (noted e floors)
+  one_noted floors i Lost is f = unchained floors i (λ k p. subst (λ (x : Entry). Precedes x k) is p) f
+  one_noted floors i Done is f = unchained floors i (λ k p. subst (λ (x : Entry). Precedes x k) is p) f
+  one_noted floors i (Step w t cs) is f = unchained floors i (λ k p. subst (λ (x : Entry). Precedes x k) is p) f
+  one_noted floors i (Choice l r) is f = unchained floors i (λ k p. subst (λ (x : Entry). Precedes x k) is p) f
+  one_noted floors i (Both l r) is f = unchained floors i (λ k p. subst (λ (x : Entry). Precedes x k) is p) f
+  one_noted floors i (Then l r) is f = unchained floors i (λ k p. subst (λ (x : Entry). Precedes x k) is p) f
+  one_noted floors i (Call t a) is f = unchained floors i (λ k p. subst (λ (x : Entry). Precedes x k) is p) f
+  one_noted floors i (Template t b n) is f = unchained floors i (λ k p. subst (λ (x : Entry). Precedes x k) is p) f
+  one_noted floors i (Condition field t n) is f = chained floors i n field (rw is) (rw is refl) (λ k p. subst (λ (x : Entry). Precedes x k) is p) f
+  one_noted floors i (Argument slot v n) is f = chained floors i n slot (rw is) (rw is refl) (λ k p. subst (λ (x : Entry). Precedes x k) is p) f
 
--- what has entry i as its next stands below i
-module _ (f : File) (i : ℕ) (some : 0 < i) where
-  led : (j : ℕ) (e : Entry) → EntryLeads f j e → Precedes e i → j < i
-  led j Lost h p = absurd p
-  led j Done h p = absurd p
-  led j (Step w t cs) h p = absurd p
-  led j (Choice l r) h p = absurd p
-  led j (Both l r) h p = absurd p
-  led j (Then l r) h p = absurd p
-  led j (Call t a) h p = absurd p
-  led j (Template t b n) h p = absurd p
-  led j (Condition k t n) h p = omega (arith, p, (h (omega arith)).up)
-  led j (Argument k v n) h p = omega (arith, p, (h (omega arith)).up)
+-- a number exceeds what the whole table has of entry i if it is more than each that has i as its next
+module _ (f : File) (long : length f.entries ≡ 257) (floors : List (Option ℕ)) (known : Floors f.entries 257 floors) (i : ℕ) (small : i < 257) where
+  pub above_floor : (n : ℕ) → Exceeds (mark floors i) n → Above f i n
+  above_floor n over j p =
+      elim (cases_lt j 257) [
+        | inl lt ↦ known.above i n small over j lt p
+        | inr ge ↦ absurd (subst (λ (e : Entry). Precedes e i) (get_or_past f.entries j Lost (omega (arith, long))) p)
+      ]
 
-  module _ (parsed : Parsed f) (up : Passed (Pointers f)) (floors : List ℕ) (small : i < 257) (known : Floors f.entries i floors) where
-    pub above_floor : (n : ℕ) → get_or floors i 0 ≤ n → Above f i n
-    above_floor n le j p =
-        let lt = led j (at f.entries j) (up j).1 p in
-        elim (cases_eq j 0) [
-          | inl zero' ↦ absurd (subst (λ (e : Entry). Precedes e i) parsed.nowhere (subst (λ (x : ℕ). Precedes (at f.entries x) i) zero' p))
-          | inr ne ↦ known.above i n small le j (omega arith) lt p
-        ]
+  pub floor_above : (n : ℕ) → Above f i n → Exceeds (mark floors i) n
+  floor_above n all = known.least i n small (λ j _ p. all j p)
 
-    pub floor_above : (n : ℕ) → Above f i n → get_or floors i 0 ≤ n
-    floor_above n all = known.least i n small (λ j _ _ p. all j p)
+  pub decides_above : (n : ℕ) (b : Bool) → Decides b (Exceeds (mark floors i) n) → Decides b (Above f i n)
+  decides_above n b over = Decides-like b (above_floor n) (floor_above n) over

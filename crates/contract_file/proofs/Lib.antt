@@ -1,4 +1,6 @@
 pub mod Everywhere
+pub mod Asked
+pub mod Optional
 pub mod Along
 pub mod Flooring
 pub mod Tables

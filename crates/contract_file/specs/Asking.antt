@@ -1,6 +1,6 @@
 -- What it is to be the answer to a list of questions: the first question that fails, with the lowest entry at fault.
 -- A question is what it asks of an entry, by the entry's number; it asks the head or the whole as entry 0.
-use Rattle.std.specs.Prelude.{◌≡◌, ℕ, ◌<◌, List, Ok, Err, Result, slice_index_or}
+use Rattle.std.specs.Prelude.{◌≡◌, ℕ, ◌<◌, Bool, true, false, List, Ok, Err, Result, OnOk, IfErr, slice_index_or}
 use Rattle.contract_file.specs.declared.faults.Fault.{Fault}
 use Rattle.contract_file.specs.Faults.{fault_number, fault_entry}
 
@@ -43,3 +43,9 @@ pub record Refused (questions : List Question) (n : ℕ) (f : Fault) : Type 0 wh
 abbrev pub Answers : {X : Type 0} → List Question → ℕ → Result X Fault → Type 0
 Answers questions n (Ok _) = (q : ℕ) → q < n → Passed (nth questions q)
 Answers questions n (Err f) = Refused questions n f
+
+-- the answer to a question put to each place of a table, the head's first: `tells i b` where it may be answered b of place i, and
+-- `faults i f` where f may be the fault there
+pub record AskedOfEach (tells : ℕ → Bool → Type 0) (faults : ℕ → Fault → Type 0) (r : Result (Unit {0}) Fault) : Type 0 where
+  pub passed : OnOk r ((i : ℕ) → i < 257 → tells i true)
+  pub refused : IfErr r (λ f. (i : ℕ) × (i < 257) × faults i f × tells i false × ((j : ℕ) → j < i → tells j true))

@@ -2,11 +2,10 @@
 use Rattle.std.specs.Prelude.{◌≡◌, ℕ, ◌<◌, ◌≤◌}
 use Rattle.days.specs.declared.windows.Counted.TheVariants.{ByCalendar}
 use Rattle.days.specs.declared.windows.Window.{Window}
-use Rattle.contract_file.specs.declared.reach.Way.TheVariants as way
 use Rattle.entries.specs.declared.entries.Entry.{Entry}
 use Rattle.entries.specs.declared.entries.Entry.TheVariants.{Lost, Done, Step, Choice, Both, Then, Call, Template, Condition, Argument}
 use Rattle.contract_file.specs.declared.files.File.{File}
-use Rattle.entries.specs.Parts.{at}
+use Rattle.entries.specs.Parts.{at, pointers}
 use Rattle.contract_file.specs.Asking.{Question}
 use Rattle.contract_file.specs.Chains.{chain}
 use Rattle.contract_file.specs.Reach.{Reached, Bare}
@@ -36,7 +35,7 @@ Calls f i = CallRight f i (at f.entries i)
 pub record RightWindow (f : File) (i : ℕ) (w : Window) : Type 0 where
   pub order : w.first ≤ w.last
   pub limit : w.last ≤ 65535
-  pub apart : w.counted ≡ ByCalendar → (t : ℕ) → Reached way.Pointers f.entries t i → ⊥
+  pub apart : w.counted ≡ ByCalendar → (t : ℕ) → Reached pointers f.entries t i → ⊥
 
 abbrev pub WindowRight : File → ℕ → Entry → Type 0
 WindowRight f i Lost = Unit {0}

@@ -1,5 +1,6 @@
 pub mod Faults
 pub mod Asking
+pub mod Marks
 pub mod Files
 pub mod Pointing
 pub mod Chains

@@ -1,45 +1,35 @@
 //! Does each call name a template on the chain and, bare in a template, one below that?
-ghost use Rattle.std.specs.Prelude.{◌≡◌, ℕ, ◌<◌, ◌≤◌, Decides};
-ghost use Rattle.contract_file.specs.declared.reach.Way.TheVariants.{Sides};
+ghost use Rattle.std.specs.Prelude.{Decides};
+ghost use Rattle.entries.specs.Parts.{sides};
 ghost use Rattle.contract_file.specs.declared.faults.Fault.TheVariants.{Call};
-ghost use Rattle.contract_file.specs.Asking.{Asked, Passed};
-ghost use Rattle.contract_file.specs.Clauses.{CallRight, Calls};
-ghost use Rattle.contract_file.specs.Pointing.{Pointers};
-ghost use Rattle.contract_file.specs.Sound.{Parsed};
+ghost use Rattle.contract_file.specs.Asking.{Asked};
+ghost use Rattle.contract_file.specs.Clauses.{Calls};
 ghost use Rattle.contract_file.specs.Pass.{LowestReach};
 
+use crate::asking::ask_each;
 use crate::chains::template_at;
 use crate::faults::Fault;
-use crate::files::{File, PLACES};
-use crate::reach::{Way, lowest};
+use crate::leading::LeadingFile;
+use crate::marks::Marks;
+use crate::reach::lowest;
 use entries::Entry;
 
-/// Is this no call, or a right one? The table has the lowest template in which each entry is bare.
-fn call_right(file: &File, bare: &[u16; PLACES], i: usize, this: Entry) -> bool
-    requires some { 0 < i }
-    requires within { i < 257 }
-    requires bare { LowestReach Sides file.now.entries bare.now }
-    ensures { Decides result (CallRight file.now i this) }
+/// Is this no call, or a right one? Each entry is marked with the lowest template in which it is bare.
+fn call_right(leading: &LeadingFile, bare: &Marks, i: u16) -> bool
+    requires { LowestReach sides leading.now.file.now.entries bare.now.marks }
+    ensures { Decides result (Calls leading.now.file.now i) }
 {
-    match this {
-        Entry::Call { template, .. } => template_at(file, template) > 0
-            && u16::from(template) < bare[i],
+    match leading.file.at(i) {
+        Entry::Call { template, .. } => template_at(leading.file, template) > 0
+            && bare.of(i).is_none_or(|lowest| template < lowest),
         _ => true,
     }
 }
 
-/// Asks it of each entry, of a file whose pointers lead up.
-pub(crate) fn ask_calls(file: &File) -> Result<(), Fault>
-    requires parsed { Parsed file.now }
-    requires up { Passed (Pointers file.now) }
-    ensures { Asked (Calls file.now) Call result }
+/// Asks it of each entry.
+pub(crate) fn ask_calls(leading: &LeadingFile) -> Result<(), Fault>
+    ensures { Asked (Calls leading.now.file.now) Call result }
 {
-    let bare = lowest(file, Way::Sides);
-    let entries: &[Entry] = &file.entries;
-    for i in 1..entries.len() {
-        if !call_right(file, &bare, i, entries[i]) {
-            return Err(Fault::Call(i as u16));
-        }
-    }
-    Ok(())
+    let bare = lowest(leading, Entry::sides);
+    ask_each(|i| call_right(leading, &bare, i), Fault::Call)
 }

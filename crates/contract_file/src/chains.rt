@@ -2,91 +2,90 @@
 ghost use Rattle.std.specs.Prelude.{◌≡◌, ℕ, ◌<◌, Decides};
 ghost use Rattle.entries.specs.Parts.{at};
 ghost use Rattle.contract_file.specs.declared.faults.Fault.TheVariants.{Chain};
-ghost use Rattle.contract_file.specs.Asking.{Asked, Passed};
+ghost use Rattle.contract_file.specs.Asking.{Asked};
 ghost use Rattle.contract_file.specs.Chains.{chain, Numbered, Rising, Chained};
-ghost use Rattle.contract_file.specs.Floors.{raised, noted, Floors};
-ghost use Rattle.contract_file.specs.Pointing.{Pointers};
-ghost use Rattle.contract_file.specs.Sound.{Parsed};
+ghost use Rattle.contract_file.specs.Floors.{noted, Floors};
 
+use crate::asking::ask_each;
 use crate::faults::Fault;
-use crate::files::{File, PLACES};
+use crate::files::File;
+use crate::marks::Marks;
 use entries::Entry;
 
 /// The template at a place of the templates' chain, counted from 1, or 0 past its end.
+// Kept with 0 for none, as the file has it: the entry of number 0 is lost, so each look-up may be made of it.
 pub fn template_at(file: &File, place: u8) -> u16
     ensures { result ≡ chain file.now place }
 {
     if place == 0 {
         return 0;
     }
-    let mut template = file.templates;
-    for _k in 1..place {
-        template = file.at(template).next_template();
-    }
-    template
+    (1..place).fold(
+        file.templates,
+        |template, _| file.at(template).next_template(),
+    )
 }
 
 /// Does a template stand on the chain, at the place that its number tells?
-fn numbered(file: &File, i: u16, this: Entry) -> bool
-    ensures { Decides result (Numbered file.now i this) }
+fn numbered(file: &File, i: u16) -> bool
+    ensures { Decides result (Numbered file.now i (at file.now.entries i)) }
 {
-    match this {
+    match file.at(i) {
         Entry::Template { number, .. } => template_at(file, number) == i,
         _ => true,
     }
 }
 
-/// Raises the floor of an entry above a field or a slot.
-fn raise(floors: &mut [u16; PLACES], entry: u16, above: u8)
-    ensures { floors.new ≡ raised floors.old «entry» above }
-{
-    if (entry as usize) < PLACES {
-        let i = entry as usize;
-        floors[i] = floors[i].max(u16::from(above) + 1);
-    }
-}
-
 /// Notes what the entry behind this one in its chain has to exceed.
-fn note(floors: &mut [u16; PLACES], this: Entry)
-    ensures { floors.new ≡ noted this floors.old }
+fn note(floors: &mut Marks, this: Entry)
+    ensures { floors.new.marks ≡ noted this floors.old.marks }
 {
-    match this {
-        Entry::Condition { field, next, .. } => raise(floors, next, field),
-        Entry::Argument { slot, next, .. } => raise(floors, next, slot),
-        _ => {}
+    if let Entry::Condition {
+        field: rank,
+        next,
+        ..
+    }
+    | Entry::Argument {
+        slot: rank,
+        next,
+        ..
+    } = this
+    {
+        floors.add(next, rank, u8::max);
     }
 }
 
-/// Has a condition or an argument more than each that it follows? The table has the floor of each entry.
-fn rising(file: &File, floors: &[u16; PLACES], i: usize, this: Entry) -> bool
-    requires parsed { Parsed file.now }
-    requires up { Passed (Pointers file.now) }
-    requires some { 0 < i }
-    requires within { i < 257 }
-    requires floors { Floors file.now.entries i floors.now }
-    ensures { Decides result (Rising file.now i this) }
+/// What each entry has to exceed: the greatest field or slot of those that it is behind.
+fn floors(file: &File) -> Marks
+    ensures { Floors file.now.entries 257 result.marks }
 {
-    match this {
-        Entry::Condition { field, .. } => floors[i] <= u16::from(field),
-        Entry::Argument { slot, .. } => floors[i] <= u16::from(slot),
+    let mut floors = Marks::none();
+    for entry in &file.entries {
+        note(&mut floors, *entry);
+    }
+    floors
+}
+
+/// Has a condition or an argument more than each that it follows?
+fn rising(file: &File, floors: &Marks, i: u16) -> bool
+    requires { Floors file.now.entries 257 floors.now.marks }
+    ensures { Decides result (Rising file.now i (at file.now.entries i)) }
+{
+    match file.at(i) {
+        Entry::Condition { field: rank, .. } | Entry::Argument { slot: rank, .. } => floors
+            .of(i)
+            .is_none_or(|floor| floor < rank),
         _ => true,
     }
 }
 
-/// Asks it of each entry, of a file whose pointers lead up.
+/// Asks it of each entry.
 pub(crate) fn ask_chains(file: &File) -> Result<(), Fault>
-    requires parsed { Parsed file.now }
-    requires up { Passed (Pointers file.now) }
     ensures { Asked (Chained file.now) Chain result }
 {
-    let mut floors = [0; PLACES];
-    let entries: &[Entry] = &file.entries;
-    for i in 1..entries.len() {
-        let this = entries[i];
-        if !numbered(file, i as u16, this) || !rising(file, &floors, i, this) {
-            return Err(Fault::Chain(i as u16));
-        }
-        note(&mut floors, this);
-    }
-    Ok(())
+    let floors = floors(file);
+    ask_each(
+        |i| numbered(file, i) && rising(file, &floors, i),
+        Fault::Chain,
+    )
 }

@@ -4,7 +4,7 @@ ghost use Rattle.contract_file.specs.Faults.{fault_number, fault_entry};
 
 /// The question that was answered no, with the lowest entry at fault where it is asked of entries.
 /// An entry's number 0 is the head.
-#[derive(Clone, Copy)]
+#[derive(Clone, Copy, Debug, PartialEq, Eq)]
 pub enum Fault {
     /// The length is not that of a head and 1 to 256 entries.
     Length,

@@ -28,11 +28,9 @@ impl File {
     pub fn at(&self, number: u16) -> Entry
         ensures { result ≡ at self.now.entries number }
     {
-        let entries: &[Entry] = &self.entries;
-        if (number as usize) < entries.len() {
-            entries[number as usize]
-        } else {
-            Entry::Lost
-        }
+        self.entries
+            .get(usize::from(number))
+            .copied()
+            .unwrap_or(Entry::Lost)
     }
 }

@@ -1,11 +1,14 @@
 //! The contract file: how it is read, and the questions that are asked of its bytes alone.
 #![tactic(auto)]
 
+mod asking;
 mod calls;
 mod chains;
 mod faults;
 mod files;
+mod leading;
 mod links;
+mod marks;
 mod places;
 mod pointers;
 mod reach;
@@ -14,6 +17,7 @@ mod reading;
 mod theorems;
 mod windows;
 
+pub use asking::ask_each;
 pub use chains::template_at;
 pub use faults::Fault;
 pub use files::{File, MOST_ENTRIES, MOST_TEMPLATES, PLACES};

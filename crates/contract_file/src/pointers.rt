@@ -1,12 +1,14 @@
 //! Does each pointer lead where it should?
-ghost use Rattle.std.specs.Prelude.{◌≡◌, Decides};
+ghost use Rattle.std.specs.Prelude.{◌≡◌, Decides, IfOk};
 ghost use Rattle.contract_file.specs.Asking.{Asked};
 ghost use Rattle.contract_file.specs.Pointing.{Leads, EndsOrLeads, SidesLead, EntryLeads, HeadLeads, Pointers};
 ghost use Rattle.contract_file.specs.declared.faults.Fault.TheVariants.{Pointer};
 ghost use Rattle.entries.specs.Parts.{at};
 
+use crate::asking::ask_each;
 use crate::faults::Fault;
 use crate::files::File;
+use crate::leading::{LeadingFile, ParsedFile};
 use entries::{Entry, Sort};
 
 /// Does a pointer from an entry lead up to an entry of this sort?
@@ -61,18 +63,20 @@ fn head_leads(file: &File) -> bool
         && ends_or_leads(file, 0, file.templates, Sort::Template)
 }
 
-/// Asks it of the head and of each entry.
-pub(crate) fn ask_pointers(file: &File) -> Result<(), Fault>
-    ensures { Asked (Pointers file.now) Pointer result }
+/// Does each pointer of the entry of a number, or of the head, lead where it should?
+fn pointers_lead(file: &File, i: u16) -> bool
+    ensures { Decides result (Pointers file.now i) }
 {
-    if !head_leads(file) {
-        return Err(Fault::Pointer(0));
+    (i > 0 || head_leads(file)) && entry_leads(file, i, file.at(i))
+}
+
+impl ParsedFile {
+    /// Asks it of the head and of each entry.
+    pub(crate) fn leading(&self) -> Result<LeadingFile<'_>, Fault>
+        ensures answer { Asked (Pointers self.now.file) Pointer result }
+        ensures same { IfOk result (λ leading. leading.file.now ≡ self.now.file) }
+    {
+        ask_each(|i| pointers_lead(&self.file, i), Fault::Pointer)?;
+        Ok(LeadingFile { file: &self.file })
     }
-    let entries: &[Entry] = &file.entries;
-    for (i, entry) in entries.iter().enumerate() {
-        if !entry_leads(file, i as u16, *entry) {
-            return Err(Fault::Pointer(i as u16));
-        }
-    }
-    Ok(())
 }

@@ -1,69 +1,46 @@
 //! What templates reach, by one pass from the first entry to the last: pointers only lead up.
-ghost use Rattle.std.specs.Prelude.{◌≡◌, ℕ, ◌≤◌};
-ghost use Rattle.contract_file.specs.Asking.{Passed};
-ghost use Rattle.contract_file.specs.Pointing.{Pointers};
-ghost use Rattle.contract_file.specs.Sound.{Parsed};
-ghost use Rattle.contract_file.specs.Pass.{LowestReach, lowered, begun};
-ghost use Rattle.contract_file.specs.Reach.{onward};
+ghost use Rattle.std.specs.Prelude.{◌≡◌, ℕ};
+ghost use Rattle.std.specs.Fn.{FnReturnsAt};
+ghost use Rattle.entries.specs.declared.entries.Entry.{Entry};
+ghost use Rattle.contract_file.specs.Marks.{mark};
+ghost use Rattle.contract_file.specs.Pass.{LowestReach, begun, handed_on};
+ghost use Rattle.contract_file.specs.Reach.{Follows};
 
-use crate::files::{File, PLACES};
+use crate::leading::LeadingFile;
+use crate::marks::Marks;
 use entries::Entry;
 
-/// How far a template's reach is followed.
-#[derive(Clone, Copy)]
-pub enum Way {
-    /// Through choice, both and then alone.
-    Sides,
-    /// By all pointers.
-    Pointers,
-}
-
-/// Above every template's number: no template reaches the entry.
-pub const NONE: u16 = 256;
-
-/// Lowers what the table has of an entry.
-fn lower(table: &mut [u16; PLACES], entry: u16, number: u16)
-    ensures { table.new ≡ lowered table.old «entry» number }
-{
-    if (entry as usize) < PLACES {
-        let i = entry as usize;
-        table[i] = table[i].min(number);
-    }
-}
-
 /// Notes that a template reaches its body.
-fn begin(table: &mut [u16; PLACES], entry: Entry)
-    ensures { table.new ≡ begun «entry» table.old }
+fn begin(lowest: &mut Marks, entry: &Entry)
+    ensures { lowest.new.marks ≡ begun entry.now lowest.old.marks }
 {
-    if let Entry::Template { number, body, .. } = entry {
-        lower(table, body, u16::from(number));
+    if let Entry::Template { number, body, .. } = *entry {
+        lowest.add(body, number, u8::min);
     }
 }
 
-/// Where a way goes on to from an entry; 0 is nowhere.
-fn onward(way: Way, this: &Entry) -> (u16, u16)
-    ensures { result ≡ onward way this.now }
+/// Notes that what reaches an entry reaches what is onward from it.
+fn hand_on(lowest: &mut Marks, entry: u16, onward: (u16, u16))
+    ensures { lowest.new.marks ≡ handed_on onward (mark lowest.old.marks «entry») lowest.old.marks }
 {
-    match way {
-        Way::Sides => this.sides(),
-        Way::Pointers => this.pointers(),
+    if let Some(number) = lowest.of(entry) {
+        lowest.add(onward.0, number, u8::min);
+        lowest.add(onward.1, number, u8::min);
     }
 }
 
-/// The lowest template that reaches each entry by a way.
-pub(crate) fn lowest(file: &File, way: Way) -> [u16; PLACES]
-    requires parsed { Parsed file.now }
-    requires up { Passed (Pointers file.now) }
-    ensures { LowestReach way file.now.entries result }
+/// The lowest template that reaches each entry, if one does: from its body on by the pointers that `onward` gives.
+pub(crate) fn lowest<F: Fn(&Entry) -> (u16, u16)>(leading: &LeadingFile, onward: F) -> Marks
+    ghost way: { Entry → ℕ × ℕ }
+    requires callable { F.IsAlwaysCallable onward }
+    requires told { (e : Entry) (p : ℕ × ℕ) → FnReturnsAt F.Fn onward e p → p ≡ way e }
+    requires follows { Follows way }
+    ensures { LowestReach way leading.now.file.now.entries result.marks }
 {
-    let mut table = [NONE; PLACES];
-    let entries: &[Entry] = &file.entries;
-    for (i, entry) in entries.iter().enumerate() {
-        begin(&mut table, *entry);
-        let (left, right) = onward(way, entry);
-        let here = table[i];
-        lower(&mut table, left, here);
-        lower(&mut table, right, here);
+    let mut lowest = Marks::none();
+    for (i, entry) in leading.file.entries.iter().enumerate() {
+        begin(&mut lowest, entry);
+        hand_on(&mut lowest, i as u16, onward(entry));
     }
-    table
+    lowest
 }

@@ -4,14 +4,13 @@ ghost use Rattle.contract_file.specs.declared.faults.Fault.TheVariants.{Unlisted
 ghost use Rattle.contract_file.specs.Asking.{Asked, Answers};
 ghost use Rattle.contract_file.specs.Files.{count_of, table_of, decoded};
 ghost use Rattle.contract_file.specs.Questions.{RightLength, EntriesListed, reading};
-ghost use Rattle.contract_file.specs.Sound.{Parsed};
 ghost use Rattle.entries.specs.Parts.{at, Listed};
 
 use crate::calls::ask_calls;
 use crate::chains::ask_chains;
 use crate::faults::Fault;
 use crate::files::{File, MOST_ENTRIES, PLACES};
-use crate::pointers::ask_pointers;
+use crate::leading::ParsedFile;
 use crate::read_file::ReadFile;
 use crate::windows::ask_windows;
 use entries::{ENTRY_BYTES, Entry, decode, two_bytes};
@@ -39,10 +38,9 @@ fn table(bytes: &[u8], count: u16) -> Result<[Entry; PLACES], Fault>
 }
 
 /// Takes a file apart, and asks of it what can be asked before its entries are known.
-fn parse(bytes: &[u8]) -> Result<File, Fault>
+fn parse(bytes: &[u8]) -> Result<ParsedFile, Fault>
     ensures answer { Answers (reading bytes.now) 4 result }
-    ensures value { IfOk result (λ file. file ≡ decoded bytes.now) }
-    ensures parsed { IfOk result (λ file. Parsed file) }
+    ensures value { IfOk result (λ parsed. parsed.file ≡ decoded bytes.now) }
 {
     let [kind, version, n1, n2, t1, t2, c1, c2, rest @ ..] = bytes else {
         return Err(Fault::Length);
@@ -55,13 +53,14 @@ fn parse(bytes: &[u8]) -> Result<File, Fault>
         return Err(Fault::Version);
     }
     let entries = table(bytes, count)?;
-    Ok(File {
+    let file = File {
         kind: *kind,
         count,
         templates: two_bytes(*t1, *t2),
         contract: two_bytes(*c1, *c2),
         entries,
-    })
+    };
+    Ok(ParsedFile { file })
 }
 
 /// Reads a contract file into the caller's place, whole if all questions pass, and otherwise not at all.
@@ -69,11 +68,11 @@ pub fn read(place: &mut ReadFile, bytes: &[u8]) -> Result<(), Fault>
     ensures answer { Answers (reading bytes.now) 8 result }
     ensures after { place.new.file ≡ (if is_ok result then decoded bytes.now else place.old.file) }
 {
-    let file = parse(bytes)?;
-    ask_pointers(&file)?;
-    ask_chains(&file)?;
-    ask_calls(&file)?;
-    ask_windows(&file)?;
-    *place = ReadFile { file };
+    let parsed = parse(bytes)?;
+    let leading = parsed.leading()?;
+    ask_chains(leading.file)?;
+    ask_calls(&leading)?;
+    ask_windows(&leading)?;
+    *place = ReadFile { file: parsed.file };
     Ok(())
 }

@@ -9,9 +9,8 @@ use Rattle.days.specs.declared.windows.Counted.TheVariants.{FromBase, ByCalendar
 use Rattle.days.specs.Windows.{window}
 use Rattle.entries.specs.declared.entries.Entry.{Entry}
 use Rattle.entries.specs.declared.entries.Entry.TheVariants.{Lost, Done, Step, Choice, Both, Then, Call, Template, Condition, Argument}
-use Rattle.entries.specs.Parts.{at}
+use Rattle.entries.specs.Parts.{at, pointers}
 use Rattle.contract_file.specs.declared.files.File.{File}
-use Rattle.contract_file.specs.declared.reach.Way.TheVariants as way
 use Rattle.contract_file.specs.Pointing.{EntryLeads}
 use Rattle.contract_file.specs.Clauses.{WindowRight}
 use Rattle.contract_file.specs.Chains.{chain}
@@ -46,7 +45,7 @@ module _ (f : File) (sound : Sound f) where
   es = f.entries
 
   abbrev Met : ℕ → ℕ → Type 0
-  Met t i = Reached way.Pointers es t i
+  Met t i = Reached pointers es t i
 
   -- what a template reaches has no window by the calendar
   relative_by : (t i : ℕ) (to : ℕ → Clause) → Met t i → ((l : ℕ) → Met t l → Relative (to l)) → (e : Entry) → at es i ≡ e → EntryLeads f i e → WindowRight f i e → Relative (clause_by f to i e)

@@ -1,25 +1,25 @@
-use Rattle.std.proofs.Common.{◌≡◌, ℕ, get_or, inl, inr, arith}
-use Rattle.std.proofs.lemmas.Bool.{cases_lt, leb-true, le-leb}
-use Rattle.contract_file.proofs.Spreading.{reached_small}
+use Rattle.std.proofs.Common.{◌≡◌, ℕ, is_some, sym, ap, ◌∙◌, arith}
+use Rattle.std.proofs.lemmas.Bool.Decides.{Decides-like}
+use Rattle.entries.specs.Parts.{pointers}
+use Rattle.contract_file.proofs.Everywhere.{numbered}
+use Rattle.contract_file.proofs.Facts.{known_parsed}
+use Rattle.contract_file.proofs.Spreading.{decides_unreached}
 use Rattle.contract_file.proofs.windows.window_right.Goals.{in-FromBase, in_default-matches}
 use Rattle.contract_file.proofs.windows.window_right.Goals as goal
 
 pub returns-else-matches : goal.returns-else-matches
 returns-else-matches c =
+    let f = c.args.leading.now.file.now in
+    let es = f.entries in
     let i = c.args.i in
-    let mark = get_or c.args.reached.now i 0 in
+    let is = sym c.at.ensures ∙ c.in-Step.is in
+    let there = numbered es i (λ lost. let z : ◌≡◌ {A = ℕ} 0 1 = cc in omega arith) (known_parsed f c.args.leading.now.parsed).nowhere in
+    let unreached = decides_unreached pointers es c.args.reached.now.marks c.requires i there c.is_none.result (ap is_some (sym c.of.ensures) ∙ c.is_none.ensures) in
     elim c.match-matches.branch [
       | in-FromBase w ↦ (let z : ◌≡◌ {A = ℕ} 0 1 = cc in absurd (omega arith))
       | in_default-matches w ↦ (
-          rw c.in-Step.is (
-            (λ e. record {
-              order = c.if-window-le-LAST_DAY.true.0;
-              limit = c.if-window-le-LAST_DAY.true.1;
-              apart = λ _ t r. omega (arith, c.requires.reached.least t i r, reached_small _ _ c.requires.parsed.values t i r, leb-true 256 mark e);
-            }),
-            (λ r. elim (cases_lt mark 256) [
-              | inl lt ↦ absurd (r.apart w.in_default-matches.is mark (c.requires.reached.real i c.requires.some c.requires.within lt))
-              | inr ge ↦ le-leb 256 mark ge
-            ]),
-          ))
+          rw is (Decides-like c.is_none.result
+            (λ apart. record { order = c.if-window-le-LAST_DAY.true.0; limit = c.if-window-le-LAST_DAY.true.1; apart = λ _. apart })
+            (λ right. right.apart w.in_default-matches.is)
+            unreached))
     ]
