@@ -13,7 +13,7 @@ pub record Contents : Type 0 where
   pub openings : List Shape
 
 abbrev pub held : Checked → Contents
-held c = record { file = c.read.file; day = c.day; openings = c.openings }
+held c = record { file = c.openings.read.file; day = c.day; openings = c.openings.shapes }
 
 -- a file signed on a day
 abbrev pub signed : File → ℕ → Contents

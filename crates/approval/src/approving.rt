@@ -28,23 +28,36 @@ fn ask_conditions<K: Kind>(file: &File, kind: &K) -> Result<(), Fault>
 }
 
 /// Is the file of this kind, with conditions that the kind admits, the contract small enough when it is opened,
-/// and the signing day early enough? If so, the answer is what each entry opens to.
-pub fn approve<K: Kind>(read: &ReadFile, kind: &K, day: u32) -> Result<[Shape; PLACES], Fault>
-    ensures answer { Answers (approving (K.Kind.numbered kind.now) K.Kind.meaning.admits day read.now.file) 12 result }
-    ensures value { IfOk result (λ s. s ≡ openings_of read.now.file) }
-    ensures known { IfOk result (λ s. Known read.now.file s) }
+/// and the signing day early enough? The table tells what each entry opens to.
+pub(crate) fn ask<K: Kind>(
+    file: &File,
+    shapes: &[Shape; PLACES],
+    kind: &K,
+    day: u32,
+) -> Result<(), Fault>
+    requires { Known file.now shapes.now }
+    ensures { Answers (approving (K.Kind.numbered kind.now) K.Kind.meaning.admits day file.now) 12 result }
 {
-    let file = read.file();
     if file.kind != kind.number() {
         return Err(Fault::Kind);
     }
     ask_conditions(file, kind)?;
-    let openings = openings(read);
-    if usize::from(shape_at(&openings, usize::from(file.contract)).size()) > MOST_NODES {
+    if usize::from(shape_at(shapes, usize::from(file.contract)).size()) > MOST_NODES {
         return Err(Fault::Size);
     }
     if day > LAST_DAY {
         return Err(Fault::Day);
     }
-    Ok(openings)
+    Ok(())
+}
+
+/// Asks it of a file that has been read. If all pass, the answer is what each entry opens to.
+pub fn approve<K: Kind>(read: &ReadFile, kind: &K, day: u32) -> Result<[Shape; PLACES], Fault>
+    ensures answer { Answers (approving (K.Kind.numbered kind.now) K.Kind.meaning.admits day read.now.file) 12 result }
+    ensures value { IfOk result (λ s. s ≡ openings_of read.now.file) }
+    ensures known { IfOk result (λ s. Known read.now.file s) }
+{
+    let shapes = openings(read);
+    ask(read.file(), &shapes, kind, day)?;
+    Ok(shapes)
 }

@@ -5,10 +5,11 @@ ghost use Rattle.answers.specs.Approving.{checking};
 ghost use Rattle.answers.specs.Computed.{computed};
 ghost use Rattle.approval.specs.Contents.{held, contents};
 
-use crate::approving::approve;
+use crate::approving::ask;
 use crate::checked::Checked;
 use contract_file::{Fault, ReadFile, read};
 use kinds::Kind;
+use openings::Openings;
 
 /// Asks all questions of a file's bytes, in order. If all pass, the checked file is written whole into the caller's
 /// place; otherwise the place stays as it was, and the answer is the first question that fails, with the lowest
@@ -20,11 +21,8 @@ pub fn check<K: Kind>(place: &mut Checked, bytes: &[u8], kind: &K, day: u32) -> 
 {
     let mut file = ReadFile::new();
     read(&mut file, bytes)?;
-    let openings = approve(&file, kind, day)?;
-    *place = Checked {
-        read: file,
-        day,
-        openings,
-    };
+    let openings = Openings::of(file);
+    ask(openings.file(), openings.shapes(), kind, day)?;
+    *place = Checked { openings, day };
     Ok(())
 }

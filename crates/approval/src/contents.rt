@@ -6,34 +6,38 @@ ghost use Rattle.approval.specs.Contents.{held, unsigned};
 
 use crate::checked::Checked;
 use contract_file::{File, ReadFile};
-use openings::{openings, shape_at};
+use openings::Openings;
 
 impl Checked {
     /// A new place: a file of kind 1 with one entry, lost, signed on day 0.
     pub fn new() -> Checked
         ensures { held result ≡ unsigned }
     {
-        let read = ReadFile::new();
-        let openings = openings(&read);
         Checked {
-            read,
+            openings: Openings::of(ReadFile::new()),
             day: 0,
-            openings,
         }
     }
 
     /// The file.
     pub fn file(&self) -> &File
-        ensures { result.now ≡ self.now.read.file }
+        ensures { result.now ≡ self.now.openings.read.file }
     {
-        self.read.file()
+        self.openings.file()
+    }
+
+    /// What each entry opens to, with the file, for which the checked one is spent.
+    pub fn into_openings(self) -> Openings
+        ensures { result ≡ self.openings }
+    {
+        self.openings
     }
 
     /// The read file, for which the checked one is spent.
     pub fn into_read(self) -> ReadFile
-        ensures { result ≡ self.read }
+        ensures { result ≡ self.openings.read }
     {
-        self.read
+        self.openings.into_read()
     }
 
     /// The signing day.
@@ -45,9 +49,9 @@ impl Checked {
 
     /// How many nodes the contract has when it is opened on the signing day.
     pub fn nodes(&self) -> u16
-        ensures { result ≡ nodes (contract_opened self.now.read.file self.now.day) }
+        ensures { result ≡ nodes (contract_opened self.now.openings.read.file self.now.day) }
     {
         let contract = self.file().contract;
-        shape_at(&self.openings, usize::from(contract)).size()
+        self.openings.at(contract).size()
     }
 }

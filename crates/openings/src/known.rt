@@ -41,6 +41,13 @@ impl Openings {
         self.read.file()
     }
 
+    /// The read file, for which what it opens to is spent.
+    pub fn into_read(self) -> ReadFile
+        ensures { result ≡ self.read }
+    {
+        self.read
+    }
+
     /// What each entry opens to, at its number.
     pub fn shapes(&self) -> &[Shape; PLACES]
         ensures same { result.now ≡ self.now.shapes }

@@ -1,16 +1,15 @@
 use Rattle.std.proofs.Common.{ap, ◌∙◌}
-use mathlib.Core.Logic.{∥∥₁_elim}
-use denote.Struct.Props.{≡_prop}
-use base.Stored.{coded_ℕ}
 use Rattle.contract_file.specs.declared.files.File.{File}
 use Rattle.openings.specs.Shapes.{size}
 use Rattle.openings.specs.Rounds.{of}
+use Rattle.openings.proofs.Facts.{known_openings}
 use Rattle.approval.proofs.Sizes.{size_told}
 use Rattle.approval.proofs.checked.Checked.nodes.Goals as goal
 
 pub returns : goal.returns
 returns c =
     let self = c.args.self.now in
-    let there = ap (λ (f : File). size (of self.openings f.contract)) c.file.ensures in
-    c.size.ensures ∙ ap size (c.shape_at.ensures ∙ ap (of self.openings) c.from.ensures) ∙ there
-    ∙ ∥∥₁_elim self.known (≡_prop coded_ℕ _ _) (λ known. size_told self.read.file self.day self.openings known self.small)
+    let file = self.openings.read.file in
+    let shapes = self.openings.shapes in
+    c.size.ensures ∙ ap size c.at.ensures.same ∙ ap (λ (f : File). size (of shapes f.contract)) c.file.ensures
+    ∙ size_told file self.day shapes (known_openings file shapes self.openings.known) self.small
