@@ -5,7 +5,7 @@ ghost use Rattle.contract_file.specs.Asking.{Asked, Answers};
 ghost use Rattle.openings.specs.Shapes.{Known, openings_of};
 ghost use Rattle.answers.specs.Approving.{Admitted, Conditions, approving};
 
-use contract_file::{Fault, File, PLACES, ReadFile, ask_each};
+use contract_file::{Fault, PLACES, ReadFile, ask_each};
 use entries::Entry;
 use kinds::{Kind, LAST_DAY};
 use openings::{Shape, openings, shape_at};
@@ -24,9 +24,10 @@ fn admitted<K: Kind>(kind: &K, this: Entry) -> bool
 }
 
 /// Does the kind admit each condition?
-fn ask_conditions<K: Kind>(file: &File, kind: &K) -> Result<(), Fault>
-    ensures { Asked (Conditions K.Kind.meaning.admits file.now) Inadmissible result }
+fn ask_conditions<K: Kind>(read: &ReadFile, kind: &K) -> Result<(), Fault>
+    ensures { Asked (Conditions K.Kind.meaning.admits read.now.file) Inadmissible result }
 {
+    let file = read.file();
     ask_each(|i| admitted(kind, file.at(i)), Fault::Inadmissible)
 }
 
@@ -41,7 +42,7 @@ pub fn approve<K: Kind>(read: &ReadFile, kind: &K, day: u32) -> Result<[Shape; P
     if file.kind != kind.number() {
         return Err(Fault::Kind);
     }
-    ask_conditions(file, kind)?;
+    ask_conditions(read, kind)?;
     let openings = openings(read);
     if shape_at(&openings, file.contract as usize).size > MOST_NODES {
         return Err(Fault::Size);
