@@ -5,7 +5,7 @@ ghost use Rattle.contract_file.specs.Asking.{Asked, Answers};
 ghost use Rattle.openings.specs.Shapes.{Known, openings_of};
 ghost use Rattle.answers.specs.Approving.{Admitted, Conditions, approving};
 
-use contract_file::{Fault, File, PLACES, ReadFile, ask_each};
+use contract_file::{Fault, PLACES, ReadFile, ask_each};
 use entries::Entry;
 use kinds::{Kind, LAST_DAY};
 use openings::{MOST_NODES, Shape, openings, shape_at};
@@ -21,27 +21,29 @@ fn admitted<K: Kind>(kind: &K, this: Entry) -> bool
 }
 
 /// Does the kind admit each condition?
-fn ask_conditions<K: Kind>(file: &File, kind: &K) -> Result<(), Fault>
-    ensures { Asked (Conditions K.Kind.meaning.admits file.now) Inadmissible result }
+fn ask_conditions<K: Kind>(read: &ReadFile, kind: &K) -> Result<(), Fault>
+    ensures { Asked (Conditions K.Kind.meaning.admits read.now.file) Inadmissible result }
 {
+    let file = read.file();
     ask_each(|i| admitted(kind, file.at(i)), Fault::Inadmissible)
 }
 
 /// Is the file of this kind, with conditions that the kind admits, the contract small enough when it is opened,
 /// and the signing day early enough? The table tells what each entry opens to.
 pub(crate) fn ask<K: Kind>(
-    file: &File,
+    read: &ReadFile,
     shapes: &[Shape; PLACES],
     kind: &K,
     day: u32,
 ) -> Result<(), Fault>
-    requires { Known file.now shapes.now }
-    ensures { Answers (approving (K.Kind.numbered kind.now) K.Kind.meaning.admits day file.now) 12 result }
+    requires { Known read.now.file shapes.now }
+    ensures { Answers (approving (K.Kind.numbered kind.now) K.Kind.meaning.admits day read.now.file) 12 result }
 {
+    let file = read.file();
     if file.kind != kind.number() {
         return Err(Fault::Kind);
     }
-    ask_conditions(file, kind)?;
+    ask_conditions(read, kind)?;
     if usize::from(shape_at(shapes, usize::from(file.contract)).size()) > MOST_NODES {
         return Err(Fault::Size);
     }
@@ -58,6 +60,6 @@ pub fn approve<K: Kind>(read: &ReadFile, kind: &K, day: u32) -> Result<[Shape; P
     ensures known { IfOk result (λ s. Known read.now.file s) }
 {
     let shapes = openings(read);
-    ask(read.file(), &shapes, kind, day)?;
+    ask(read, &shapes, kind, day)?;
     Ok(shapes)
 }

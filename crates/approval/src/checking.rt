@@ -22,7 +22,7 @@ pub fn check<K: Kind>(place: &mut Checked, bytes: &[u8], kind: &K, day: u32) -> 
     let mut file = ReadFile::new();
     read(&mut file, bytes)?;
     let openings = Openings::of(file);
-    ask(openings.file(), openings.shapes(), kind, day)?;
+    ask(openings.read(), openings.shapes(), kind, day)?;
     *place = Checked { openings, day };
     Ok(())
 }
