@@ -1,7 +1,7 @@
 -- What is due by the nodes of a table: the items of its leaves, their numbers, and how these stand in a list. Assumes nothing.
 use Rattle.std.specs.Prelude.{ℕ, List, [], ◌∷◌, ◌++◌, length, drop, Some, None, Option}
 use Rattle.language.specs.Clauses.{first, last}
-use Rattle.days.specs.Windows.{window}
+use Rattle.days.specs.Windows.{meant}
 use Rattle.entries.specs.declared.entries.Entry.{Entry}
 use Rattle.entries.specs.declared.entries.Entry.TheVariants as entries
 use Rattle.entries.specs.Parts.{at}
@@ -14,7 +14,7 @@ use Rattle.terms.specs.declared.nodes.Node.TheVariants.{Lost, Done, Leaf, Choice
 abbrev pub item_by : ℕ → ℕ → Entry → Due
 item_by step base entries.Lost = record { step = step; first = 0; last = 0 }
 item_by step base entries.Done = record { step = step; first = 0; last = 0 }
-item_by step base (entries.Step dated tail conditions u v) = record { step = step; first = first (window dated u v) base; last = last (window dated u v) base }
+item_by step base (entries.Step w tail conditions) = record { step = step; first = first (meant w) base; last = last (meant w) base }
 item_by step base (entries.Choice left right) = record { step = step; first = 0; last = 0 }
 item_by step base (entries.Both left right) = record { step = step; first = 0; last = 0 }
 item_by step base (entries.Then left right) = record { step = step; first = 0; last = 0 }

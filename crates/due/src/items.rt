@@ -3,7 +3,6 @@ ghost use Rattle.std.specs.Prelude.{◌≡◌};
 ghost use Rattle.due.specs.Items.{due_item, node_due, numbers};
 
 use contract_file::File;
-use days::Window;
 use entries::Entry;
 use terms::Node;
 
@@ -25,23 +24,11 @@ impl Due {
     {
         let entry = file.at(step);
         match entry {
-            Entry::Step {
-                calendar,
-                first,
-                last,
-                ..
-            } => {
-                let window = Window {
-                    calendar,
-                    first,
-                    last,
-                };
-                Due {
-                    step,
-                    first: window.first_day(base),
-                    last: window.last_day(base),
-                }
-            }
+            Entry::Step { window, .. } => Due {
+                step,
+                first: window.first_day(base),
+                last: window.last_day(base),
+            },
             _ => Due {
                 step,
                 first: 0,
