@@ -15,6 +15,8 @@ use Rattle.contract_file.specs.declared.files.File.{File}
 use Rattle.contract_file.proofs.Facts.{known_sound}
 use Rattle.openings.specs.Clauses.{conditions_at, clause_by, clause_at, templates_of}
 use Rattle.openings.proofs.Unfolding.{leading, unfolds}
+use Rattle.openings.specs.Shapes.{size}
+use Rattle.openings.proofs.Shaping.{size_is}
 use Rattle.terms.specs.declared.nodes.Node.TheVariants as node
 use Rattle.terms.specs.declared.nodes.Node.{Node}
 use Rattle.terms.specs.Tables.{Wrote}
@@ -76,12 +78,12 @@ module _ {R : Type 0} (K : Meaning R) (m : Marked) (r : R) (f : File) (same : f 
   left_is i (Follow t c row) h = ap₂ (λ x d. then_of x c row (opened (templates_of (file_of m)) c row d)) (left_is (i + 1) t h.3) on
 
   module _ (weights : List Weight) (old : List Weight) (end : ℕ) (w : Weight) (weighs : Weighs m 0 end w old weights) (t : Term) (h : Stands m 0 t) where
-    sized : w.left.size ≡ min (nodes (residual K (templates_of (file_of m)) t r)) 257
-    sized = ap (λ x. x.left.size) (weighs.root t h) ∙ ap (λ u. min (nodes u) 257) (left_is 0 t h)
+    sized : size w.left ≡ min (nodes (residual K (templates_of (file_of m)) t r)) 257
+    sized = ap (λ x. size x.left) (weighs.root t h) ∙ size_is _ ∙ ap (λ u. min (nodes u) 257) (left_is 0 t h)
 
-    pub taken : (before start after : List Node) (s : ℕ) → s ≡ w.left.size → s ≤ 256 → start ≡ [] → Wrote (file_of m) start after (left m 0 t)
+    pub taken : (before start after : List Node) (s : ℕ) → s ≡ size w.left → s ≤ 256 → start ≡ [] → Wrote (file_of m) start after (left m 0 t)
         → Replaced (file_of m) (residual K (templates_of (file_of m)) t r) before after (Ok tt)
     taken before start after s e small is v = replaced (file_of m) _ before start after is (omega (arith, sized)) (subst (Wrote (file_of m) start after) (left_is 0 t h) v)
 
-    pub kept : (before : List Node) (s : ℕ) → s ≡ w.left.size → 256 < s → Replaced (file_of m) (residual K (templates_of (file_of m)) t r) before before (Err (record {}))
+    pub kept : (before : List Node) (s : ℕ) → s ≡ size w.left → 256 < s → Replaced (file_of m) (residual K (templates_of (file_of m)) t r) before before (Err (record {}))
     kept before s e large = refused (file_of m) _ before (omega (arith, sized))

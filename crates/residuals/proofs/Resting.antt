@@ -7,7 +7,8 @@ use Rattle.openings.specs.declared.shapes.Shape.{Shape}
 use Rattle.openings.specs.Clauses.{clause_at, templates_of}
 use Rattle.openings.specs.Shapes.{shape_of, both_shape}
 use Rattle.openings.specs.Rounds.{of}
-use Rattle.openings.proofs.Shaping.{both_shape_is}
+use Rattle.openings.proofs.Shaping.{lost_is, done_is, ends_is, size_is, both_shape_is}
+use Rattle.openings.specs.Shapes as shapes
 use Rattle.terms.specs.declared.nodes.Node.{Node}
 use Rattle.terms.specs.declared.nodes.Node.TheVariants as node
 use Rattle.terms.specs.Tables.{Wrote}
@@ -40,14 +41,14 @@ module _ (l r : Term) where
   -- by their shapes
   halved_by : (a b : Shape) → a ≡ shape_of l → b ≡ shape_of r → Halved (half_by a b)
   halved_by a b p q =
-      let lost : (is_lost l || is_lost r) ≡ (a.lost || b.lost) = ap₂ ◌||◌ (sym (ap (λ s. s.lost) p)) (sym (ap (λ s. s.lost) q)) in
-      let done_l : is_done l ≡ a.done = sym (ap (λ s. s.done) p) in
-      let done_r : is_done r ≡ b.done = sym (ap (λ s. s.done) q) in
-      cond_both (a.lost || b.lost) _ _ Halved
+      let lost : (is_lost l || is_lost r) ≡ (shapes.lost a || shapes.lost b) = ap₂ ◌||◌ (sym (ap shapes.lost p ∙ lost_is l)) (sym (ap shapes.lost q ∙ lost_is r)) in
+      let done_l : is_done l ≡ shapes.done a = sym (ap shapes.done p ∙ done_is l) in
+      let done_r : is_done r ≡ shapes.done b = sym (ap shapes.done q ∙ done_is r) in
+      cond_both (shapes.lost a || shapes.lost b) _ _ Halved
       (λ e. tidied.both_lost l r (lost ∙ e))
-      (λ e. cond_both a.done _ _ Halved
+      (λ e. cond_both (shapes.done a) _ _ Halved
       (λ g. tidied.both_right l r (lost ∙ e) (done_l ∙ g))
-      (λ g. cond_both b.done _ _ Halved
+      (λ g. cond_both (shapes.done b) _ _ Halved
       (λ h. tidied.both_left l r (lost ∙ e) (done_l ∙ g) (done_r ∙ h))
       (λ h. tidied.both_both l r (lost ∙ e) (done_l ∙ g) (done_r ∙ h))))
 
@@ -76,8 +77,8 @@ module _ (w : Weighed) where
   in_table at x = omega (arith, within at x, m.few, some_nodes x.term)
 
   -- where the next term begins
-  pub ends_at : (at : ℕ) (x : Ready w at) → at + (weight_in weights at).held.size ≡ at + nodes x.term
-  ends_at at x = (let s = ap (λ w. w.size) (held_shape at x) in omega (arith, within at x, m.few))
+  pub ends_at : (at : ℕ) (x : Ready w at) → at + shapes.size (weight_in weights at).held ≡ at + nodes x.term
+  ends_at at x = (let s = ap shapes.size (held_shape at x) ∙ size_is x.term in omega (arith, within at x, m.few))
 
   -- a both of two sides
   sided : (s : Side) (x : Ready w (place s)) → side_shape weights s ≡ shape_of (side_term s x)
@@ -85,15 +86,15 @@ module _ (w : Weighed) where
   sided (side.Kept p) x = held_shape p x
 
   -- how many nodes are written
-  pub left_size : (at : ℕ) (x : Ready w at) → (weight_in weights at).left.size ≡ min (nodes (left_of x)) 257
-  left_size at x = ap (λ s. s.size) (left_shape at x)
+  pub left_size : (at : ℕ) (x : Ready w at) → shapes.size (weight_in weights at).left ≡ min (nodes (left_of x)) 257
+  left_size at x = ap shapes.size (left_shape at x) ∙ size_is (left_of x)
 
-  pub side_size : (s : Side) (x : Ready w (place s)) → (side_shape weights s).size ≡ min (nodes (side_term s x)) 257
-  side_size s x = ap (λ s. s.size) (sided s x)
+  pub side_size : (s : Side) (x : Ready w (place s)) → shapes.size (side_shape weights s) ≡ min (nodes (side_term s x)) 257
+  side_size s x = ap shapes.size (sided s x) ∙ size_is (side_term s x)
 
   pub both_size : (l r : Side) (x : Ready w (place l)) (y : Ready w (place r))
-      → (both_shape (side_shape weights l) (side_shape weights r)).size ≡ min (nodes (both_of (side_term l x) (side_term r y))) 257
-  both_size l r x y = ap (λ s. s.size) (ap₂ both_shape (sided l x) (sided r y) ∙ sym (both_shape_is (side_term l x) (side_term r y)))
+      → shapes.size (both_shape (side_shape weights l) (side_shape weights r)) ≡ min (nodes (both_of (side_term l x) (side_term r y))) 257
+  both_size l r x y = ap shapes.size (ap₂ both_shape (sided l x) (sided r y) ∙ sym (both_shape_is (side_term l x) (side_term r y))) ∙ size_is _
 
   pub halved : (l r : Side) (x : Ready w (place l)) (y : Ready w (place r)) (a b : Shape) (h : Half) → h ≡ half_by a b
       → a ≡ side_shape weights l → b ≡ side_shape weights r → Halved (side_term l x) (side_term r y) h
@@ -103,7 +104,7 @@ module _ (w : Weighed) where
   pub record Whole (p : ℕ) (t : Term) : Type 0 where
     pub held : Stands m p t
     pub few : p + nodes t ≤ length (nodes_of m)
-    pub ends : p + (weight_in weights p).held.size ≡ p + nodes t
+    pub ends : p + shapes.size (weight_in weights p).held ≡ p + nodes t
 
   pub whole : (s : Side) (p : ℕ) → s ≡ side.Kept p → (x : Ready w (place s)) → Whole p (side_term s x)
   whole (side.Taken q) p e x = (let z : ◌≡◌ {A = ℕ} 0 1 = cc in absurd (omega arith))
@@ -179,11 +180,11 @@ module _ (w : Weighed) where
         let l' = left_of l in
         let r' = left_of r in
         let is : left_of x ≡ choice_of l' r' = ap (left m at) v.is ∙ ap (choice_of l') (moves Choice (λ l r. refl) v) in
-        let gone_l : is_lost l' ≡ (weight_in weights (at + 1)).left.lost = sym (ap (λ s. s.lost) (left_shape _ l)) in
-        let gone_r : is_lost r' ≡ (weight_in weights (second_at weights at)).left.lost = sym (ap (λ s. s.lost) (left_shape _ r)) in
-        cond_both (weight_in weights (at + 1)).left.lost _ _ Rested
+        let gone_l : is_lost l' ≡ shapes.lost (weight_in weights (at + 1)).left = sym (ap shapes.lost (left_shape _ l) ∙ lost_is l') in
+        let gone_r : is_lost r' ≡ shapes.lost (weight_in weights (second_at weights at)).left = sym (ap shapes.lost (left_shape _ r) ∙ lost_is r') in
+        cond_both (shapes.lost (weight_in weights (at + 1)).left) _ _ Rested
         (λ a. record { part = r; low = omega (arith, ps.between); is = is ∙ tidied.choice_right _ _ (gone_l ∙ a) })
-        (λ a. cond_both (weight_in weights (second_at weights at)).left.lost _ _ Rested
+        (λ a. cond_both (shapes.lost (weight_in weights (second_at weights at)).left) _ _ Rested
         (λ b. record { part = l; low = omega arith; is = is ∙ tidied.choice_left _ _ (gone_l ∙ a) (gone_r ∙ b) })
         (λ b. record { parts = ps; is = is ∙ tidied.choice_both _ _ (gone_l ∙ a) (gone_r ∙ b) }))
 
@@ -199,11 +200,11 @@ module _ (w : Weighed) where
         let other = both_shape (weight_in weights (at + 1)).held (weight_in weights (second_at weights at)).left in
         let is : left_of x ≡ choice_of (both_of l' r.term) (both_of l.term r') =
         ap (left m at) v.is ∙ ap (λ z. choice_of (both_of l' r.term) (both_of l.term z)) (moves Both (λ l r. refl) v) in
-        let gone_l : is_lost (both_of l' r.term) ≡ first.lost = sym (ap (λ s. s.lost) (ap₂ both_shape (left_shape _ l) (held_shape _ r) ∙ sym (both_shape_is l' r.term))) in
-        let gone_r : is_lost (both_of l.term r') ≡ other.lost = sym (ap (λ s. s.lost) (ap₂ both_shape (held_shape _ l) (left_shape _ r) ∙ sym (both_shape_is l.term r'))) in
-        cond_both first.lost _ _ Rested
+        let gone_l : is_lost (both_of l' r.term) ≡ shapes.lost first = sym (ap shapes.lost (ap₂ both_shape (left_shape _ l) (held_shape _ r) ∙ sym (both_shape_is l' r.term)) ∙ lost_is (both_of l' r.term)) in
+        let gone_r : is_lost (both_of l.term r') ≡ shapes.lost other = sym (ap shapes.lost (ap₂ both_shape (held_shape _ l) (left_shape _ r) ∙ sym (both_shape_is l.term r')) ∙ lost_is (both_of l.term r')) in
+        cond_both (shapes.lost first) _ _ Rested
         (λ a. record { parts = ps; is = is ∙ tidied.choice_right _ _ (gone_l ∙ a) })
-        (λ a. cond_both other.lost _ _ Rested
+        (λ a. cond_both (shapes.lost other) _ _ Rested
         (λ b. record { parts = ps; is = is ∙ tidied.choice_left _ _ (gone_l ∙ a) (gone_r ∙ b) })
         (λ b. record { parts = ps; is = is ∙ tidied.choice_both _ _ (gone_l ∙ a) (gone_r ∙ b) }))
 
@@ -221,16 +222,16 @@ module _ (w : Weighed) where
     then_rested : (s : ℕ) (row : Row) (y : Ready w (at + 1)) (l : Shape) → l ≡ shape_of (left_of y) → left_of x ≡ then_of (left_of y) (clause_at (file_of m) s) row (again s row)
         → Rested (follow_rest m l (record { clause = s; row = row }))
     then_rested s row y l w is =
-        let ends : may_end (left_of y) ≡ l.ends = sym (ap (λ z. z.ends) w) in
-        let empty : (is_done (left_of y) || is_lost (left_of y)) ≡ (l.done || l.lost) = sym (ap (λ z. z.done || z.lost) w) in
-        let gone : is_lost (again s row) ≡ (of m.openings.now.shapes s).lost = sym (ap (λ z. z.lost) (opens m s row m.day)) in
-        cond_both l.ends _ _ Rested
-        (λ a. cond_both (l.done || l.lost) _ _ Rested
+        let ends : may_end (left_of y) ≡ shapes.ends l = sym (ap shapes.ends w ∙ ends_is (left_of y)) in
+        let empty : (is_done (left_of y) || is_lost (left_of y)) ≡ (shapes.done l || shapes.lost l) = ap₂ ◌||◌ (sym (ap shapes.done w ∙ done_is (left_of y))) (sym (ap shapes.lost w ∙ lost_is (left_of y))) in
+        let gone : is_lost (again s row) ≡ shapes.lost (of m.openings.now.shapes s) = sym (ap shapes.lost (opens m s row m.day) ∙ lost_is (again s row)) in
+        cond_both (shapes.ends l) _ _ Rested
+        (λ a. cond_both (shapes.done l || shapes.lost l) _ _ Rested
         (λ b. is ∙ tidied.then_open (left_of y) _ row (again s row) (ends ∙ a) (empty ∙ b))
-        (λ b. cond_both (of m.openings.now.shapes s).lost _ _ Rested
+        (λ b. cond_both (shapes.lost (of m.openings.now.shapes s)) _ _ Rested
         (λ d. record { part = y; is = is ∙ tidied.then_only (left_of y) _ row (again s row) (ends ∙ a) (empty ∙ b) (gone ∙ d) })
         (λ d. record { part = y; is = is ∙ tidied.then_skip (left_of y) _ row (again s row) (ends ∙ a) (empty ∙ b) (gone ∙ d) })))
-        (λ a. cond_both (l.done || l.lost) _ _ Rested
+        (λ a. cond_both (shapes.done l || shapes.lost l) _ _ Rested
         (λ b. is ∙ tidied.then_lost (left_of y) _ row (again s row) (ends ∙ a) (empty ∙ b))
         (λ b. record { part = y; is = is ∙ tidied.then_follow (left_of y) _ row (again s row) (ends ∙ a) (empty ∙ b) }))
 

@@ -2,7 +2,7 @@
 use Rattle.std.specs.Prelude.{◌≡◌, ℕ, ◌+◌, ◌<◌, ◌≤◌, cond, ◌||◌, List, length, Some, None, Option}
 use Rattle.language.specs.Terms.{Term, nodes, both_of}
 use Rattle.openings.specs.declared.shapes.Shape.{Shape}
-use Rattle.openings.specs.Shapes.{both_shape}
+use Rattle.openings.specs.Shapes.{size, lost, done, ends, both_shape}
 use Rattle.openings.specs.Rounds.{of}
 use Rattle.terms.specs.declared.nodes.Node.{Node}
 use Rattle.terms.specs.declared.nodes.Node.TheVariants as node
@@ -44,7 +44,7 @@ side_shape weights (side.Taken p) = (weight_in weights p).left
 side_shape weights (side.Kept p) = (weight_in weights p).held
 
 abbrev pub half_by : Shape → Shape → Half
-half_by l r = cond (l.lost || r.lost) half.Lost (cond l.done half.Right (cond r.done half.Left half.Both))
+half_by l r = cond (lost l || lost r) half.Lost (cond (done l) half.Right (cond (done r) half.Left half.Both))
 
 -- What is written for each sort of node.
 abbrev pub leaf_rest : Option Next → Rest
@@ -52,22 +52,22 @@ leaf_rest None = rest.Lost
 leaf_rest (Some next) = rest.Open next
 
 abbrev pub choice_rest : List Weight → ℕ → ℕ → Rest
-choice_rest ws l r = cond (weight_in ws l).left.lost (rest.Only r) (cond (weight_in ws r).left.lost (rest.Only l) (rest.Choice l r))
+choice_rest ws l r = cond (lost (weight_in ws l).left) (rest.Only r) (cond (lost (weight_in ws r).left) (rest.Only l) (rest.Choice l r))
 
 abbrev pub both_rest : List Weight → ℕ → ℕ → Rest
 both_rest ws l r =
-    cond (both_shape (weight_in ws l).left (weight_in ws r).held).lost (rest.Both (side.Kept l) (side.Taken r))
-    (cond (both_shape (weight_in ws l).held (weight_in ws r).left).lost (rest.Both (side.Taken l) (side.Kept r)) (rest.Either l r))
+    cond (lost (both_shape (weight_in ws l).left (weight_in ws r).held)) (rest.Both (side.Kept l) (side.Taken r))
+    (cond (lost (both_shape (weight_in ws l).held (weight_in ws r).left)) (rest.Both (side.Taken l) (side.Kept r)) (rest.Either l r))
 
 abbrev pub follow_rest : Marked → Shape → Next → Rest
 follow_rest m t next =
-    cond t.ends
-    (cond (t.done || t.lost) (rest.Open next) (cond (of m.openings.now.shapes next.clause).lost (rest.Follow next) (rest.Skip next)))
-    (cond (t.done || t.lost) rest.Lost (rest.Follow next))
+    cond (ends t)
+    (cond (done t || lost t) (rest.Open next) (cond (lost (of m.openings.now.shapes next.clause)) (rest.Follow next) (rest.Skip next)))
+    (cond (done t || lost t) rest.Lost (rest.Follow next))
 
 -- Where the second of two parts stands.
 abbrev pub second_at : List Weight → ℕ → ℕ
-second_at ws at = at + 1 + (weight_in ws (at + 1)).held.size
+second_at ws at = at + 1 + size (weight_in ws (at + 1)).held
 
 abbrev pub rest_by : Marked → List Weight → ℕ → Node → Rest
 rest_by m ws at node.Lost = rest.Lost
@@ -90,4 +90,4 @@ BuildsBoth w l r before after =
 
 -- Behind some nodes there is room for something that comes to this.
 abbrev pub HasRoom : List Node → Shape → Type 0
-HasRoom ns s = length ns + s.size ≤ 256
+HasRoom ns s = length ns + size s ≤ 256

@@ -85,7 +85,7 @@ impl Weighed<'_> {
         match side {
             Side::Taken(at) => self.build(at, out),
             Side::Kept(at) => {
-                let end = at + usize::from(self.weight(at).held.size);
+                let end = at + usize::from(self.weight(at).held.size());
                 let kept = out.try_extend_from_slice(&self.marked.nodes[at..end]);
                 kept.unwrap();
             }

@@ -35,7 +35,7 @@ pub fn hold<K: Kind>(
     };
     let mut weights = [Weight::lost(); MOST_NODES];
     let (whole, _) = marked.weigh(0, &mut weights);
-    if usize::from(whole.left.size) > MOST_NODES {
+    if usize::from(whole.left.size()) > MOST_NODES {
         return Err(TooLarge);
     }
     let weighed = Weighed {

@@ -50,14 +50,11 @@ pub(crate) enum Half {
 pub(crate) fn half_of(l: Shape, r: Shape) -> Half
     ensures { result ≡ half_by l r }
 {
-    if l.lost | r.lost {
-        Half::Lost
-    } else if l.done {
-        Half::Right
-    } else if r.done {
-        Half::Left
-    } else {
-        Half::Both
+    match (l, r) {
+        (Shape::Lost, _) | (_, Shape::Lost) => Half::Lost,
+        (Shape::Done, _) => Half::Right,
+        (_, Shape::Done) => Half::Left,
+        _ => Half::Both,
     }
 }
 
@@ -86,12 +83,10 @@ impl Weighed<'_> {
     fn choice_rest(&self, left: usize, right: usize) -> Rest
         ensures { result ≡ choice_rest self.now.weights.now left right }
     {
-        if self.weight(left).left.lost {
-            Rest::Only(right)
-        } else if self.weight(right).left.lost {
-            Rest::Only(left)
-        } else {
-            Rest::Choice(left, right)
+        match (self.weight(left).left, self.weight(right).left) {
+            (Shape::Lost, _) => Rest::Only(right),
+            (_, Shape::Lost) => Rest::Only(left),
+            _ => Rest::Choice(left, right),
         }
     }
 
@@ -101,12 +96,13 @@ impl Weighed<'_> {
     {
         let l = self.weight(left);
         let r = self.weight(right);
-        if Shape::both_of(l.left, r.held).lost {
-            Rest::Both(Side::Kept(left), Side::Taken(right))
-        } else if Shape::both_of(l.held, r.left).lost {
-            Rest::Both(Side::Taken(left), Side::Kept(right))
-        } else {
-            Rest::Either(left, right)
+        match (
+            Shape::both_of(l.left, r.held),
+            Shape::both_of(l.held, r.left),
+        ) {
+            (Shape::Lost, _) => Rest::Both(Side::Kept(left), Side::Taken(right)),
+            (_, Shape::Lost) => Rest::Both(Side::Taken(left), Side::Kept(right)),
+            _ => Rest::Either(left, right),
         }
     }
 
@@ -114,19 +110,15 @@ impl Weighed<'_> {
     fn follow_rest(&self, part: Shape, next: Next) -> Rest
         ensures { result ≡ follow_rest self.now.marked part next }
     {
-        let empty = part.done | part.lost;
-        if part.ends {
-            if empty {
-                Rest::Open(next)
-            } else if self.marked.openings.at(next.clause).lost {
-                Rest::Follow(next)
-            } else {
+        match (part, self.marked.openings.at(next.clause)) {
+            (Shape::Lost, _) => Rest::Lost,
+            (Shape::Done, _) => Rest::Open(next),
+            (Shape::Open { .. }, Shape::Lost) => Rest::Follow(next),
+            (Shape::Open { ends, .. }, _) => if ends {
                 Rest::Skip(next)
-            }
-        } else if empty {
-            Rest::Lost
-        } else {
-            Rest::Follow(next)
+            } else {
+                Rest::Follow(next)
+            },
         }
     }
 
@@ -139,7 +131,7 @@ impl Weighed<'_> {
         };
         let left = at + 1;
         let part = self.weight(left);
-        let right = left + usize::from(part.held.size);
+        let right = left + usize::from(part.held.size());
         match *node {
             Node::Lost | Node::Done => Rest::Lost,
             Node::Leaf { .. } => leaf_rest(self.marked.mark(at)),

@@ -23,7 +23,7 @@ impl Marked<'_> {
     {
         match mark {
             Some(next) => self.openings.at(next.clause),
-            None => Shape::lost(),
+            None => Shape::Lost,
         }
     }
 

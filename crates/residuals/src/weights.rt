@@ -16,8 +16,8 @@ impl Weight {
         ensures { result ≡ lost_weight }
     {
         Weight {
-            held: Shape::lost(),
-            left: Shape::lost(),
+            held: Shape::Lost,
+            left: Shape::Lost,
         }
     }
 
@@ -25,8 +25,8 @@ impl Weight {
         ensures { result ≡ done_weight }
     {
         Weight {
-            held: Shape::done(),
-            left: Shape::lost(),
+            held: Shape::Done,
+            left: Shape::Lost,
         }
     }
 

@@ -1,5 +1,6 @@
 use Rattle.std.proofs.Common.{◌≡◌, ◌+◌, refl, ap, ◌∙◌, arith}
 use Rattle.language.specs.Terms.{nodes, both_of}
+use Rattle.openings.specs.Shapes as shapes
 use Rattle.terms.proofs.Writing.{some_nodes, longer, retold, write_lost, write_choice, write_both, write_follow}
 use Rattle.residuals.specs.declared.rests.Side.TheVariants as side
 use Rattle.residuals.specs.Marked.{nodes_of}
@@ -256,11 +257,11 @@ build_both-returns-in-Both t c =
 pub build_side-slice_bounds-try_extend_from_slice-end : goal.build_side-slice_bounds-try_extend_from_slice-end
 build_side-slice_bounds-try_extend_from_slice-end t c =
     let k = whole c.args.self.now c.args.side c.in-Kept.at c.in-Kept.is c.requires.ready in
-    omega (arith, k.few, k.ends, c.from.ensures, ap (λ w. w.held.size) c.weight.ensures)
+    omega (arith, k.few, k.ends, c.from.ensures, c.size.ensures, ap (λ w. shapes.size w.held) c.weight.ensures)
 
 pub build_side-returns-in-Kept : goal.build_side-returns-in-Kept
 build_side-returns-in-Kept t c =
     λ x.
     let k = whole c.args.self.now c.args.side c.in-Kept.at c.in-Kept.is x in
-    let size : c.from.result ≡ (weight_in c.args.self.now.weights.now c.in-Kept.at).held.size = c.from.ensures ∙ ap (λ w. w.held.size) c.weight.ensures in
+    let size : c.from.result ≡ shapes.size (weight_in c.args.self.now.weights.now c.in-Kept.at).held = c.from.ensures ∙ c.size.ensures ∙ ap (λ w. shapes.size w.held) c.weight.ensures in
     copied _ (nodes_of c.args.self.now.marked) _ _ c.in-Kept.at _ _ k.held (ap (λ n. c.in-Kept.at + n) size ∙ k.ends) (rw c.unwrap.ensures at c.try_extend_from_slice-kept.ensures.ok)
