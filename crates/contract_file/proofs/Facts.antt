@@ -1,5 +1,5 @@
 -- That a file is sound is a fact: it holds in one way at most, so what a sound file's type hides can be taken out again.
-use Rattle.std.proofs.Common.{◌≡◌, ℕ, Bool}
+use Rattle.std.proofs.Common.{◌≡◌, ℕ}
 use mathlib.Core.Logic.{∥∥₁_elim}
 use mathlib.Core.HLevel.{Π_prop, ×_prop, ¬_prop}
 use native.Mathlib.Bridge.{le_prop}

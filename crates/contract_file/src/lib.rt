@@ -8,7 +8,6 @@ mod faults;
 mod files;
 mod leading;
 mod marks;
-mod places;
 mod pointers;
 mod reach;
 mod read_file;

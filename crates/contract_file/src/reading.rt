@@ -44,7 +44,7 @@ fn parse(bytes: &[u8]) -> Result<ParsedFile, Fault>
         return Err(Fault::Length);
     };
     let count = two_bytes(*n1, *n2);
-    if count < 1 || count > MOST_ENTRIES || rest.len() != ENTRY_BYTES * count as usize {
+    if !(1..=MOST_ENTRIES).contains(&count) || rest.len() != ENTRY_BYTES * usize::from(count) {
         return Err(Fault::Length);
     }
     if *version != 1 {
