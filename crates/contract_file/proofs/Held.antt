@@ -1,9 +1,9 @@
 -- What is known of a file that is read, behind the questions that pass.
-use Rattle.std.proofs.Common.{◌≡◌, ℕ, List, subst, arith}
+use Rattle.std.proofs.Common.{◌≡◌, ℕ, List, subst}
 use Rattle.entries.specs.Parts.{at, Listed}
 use Rattle.contract_file.specs.Files.{decoded}
 use Rattle.contract_file.specs.Questions.{RightLength, reading}
-use Rattle.contract_file.specs.Sound.{Parsed, Sound}
+use Rattle.contract_file.specs.Sound.{Parsed}
 use Rattle.contract_file.proofs.Tables.{table_long, table_nowhere, table_past}
 use Rattle.contract_file.specs.declared.files.File.{File}
 use Rattle.contract_file.specs.Asking.{Passed}

@@ -4,6 +4,7 @@ pub mod Optional
 pub mod Along
 pub mod Flooring
 pub mod Tables
+pub mod Filled
 pub mod Passing
 pub mod Ahead
 pub mod Lowering

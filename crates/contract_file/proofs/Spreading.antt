@@ -5,7 +5,7 @@ use Rattle.std.proofs.lemmas.Bool.Decides.{Decides-like}
 use Rattle.std.proofs.lemmas.List.{get_or_past, get_or-replicate, length-replicate}
 use Rattle.entries.specs.declared.entries.Entry.{Entry}
 use Rattle.entries.specs.declared.entries.Entry.TheVariants.{Lost, Done, Step, Choice, Both, Then, Call, Template, Condition, Argument}
-use Rattle.entries.specs.Parts.{at, pointers}
+use Rattle.entries.specs.Parts.{at}
 use Rattle.contract_file.specs.Marks.{mark}
 use Rattle.contract_file.specs.Pass.{LowestReach, lowered, begun, handed_on}
 use Rattle.contract_file.specs.Reach.{Follows, To, Reached, at_body, further}

@@ -32,6 +32,7 @@ pub enum Fault {
 
 impl Fault {
     /// The number of the question.
+    // Kept as a number: docs/questions.md gives each question its own, and the first line of a report has it.
     pub fn number(&self) -> u8
         ensures { result ≡ fault_number self.now }
     {
@@ -51,6 +52,7 @@ impl Fault {
     }
 
     /// The entry at fault, 0 for the head or the whole.
+    // Kept with 0 for none: docs/questions.md calls the head entry 0.
     pub fn entry(&self) -> u16
         ensures { result ≡ fault_entry self.now }
     {

@@ -14,6 +14,7 @@ pub const MOST_TEMPLATES: usize = 16;
 pub const PLACES: usize = 257;
 
 /// What a contract file holds. Each entry stands at its number; the places past the last are lost.
+// Kept as a fixed table: the running contract never allocates, and a pointer is a number, as the file has it.
 #[derive(Clone, Copy)]
 pub struct File {
     pub kind: u8,
@@ -24,6 +25,23 @@ pub struct File {
 }
 
 impl File {
+    ghost use Rattle.contract_file.specs.Fresh.{fresh};
+    ghost use Rattle.contract_file.specs.Sound.{Sound};
+
+    /// A file of kind 1 with one entry, lost.
+    pub fn new() -> File
+        ensures value { result ≡ fresh }
+        ensures sound { Sound result }
+    {
+        File {
+            kind: 1,
+            count: 1,
+            templates: 0,
+            contract: 1,
+            entries: [Entry::Lost; PLACES],
+        }
+    }
+
     /// The entry of a number, lost past the last.
     pub fn at(&self, number: u16) -> Entry
         ensures { result ≡ at self.now.entries number }

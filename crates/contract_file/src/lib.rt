@@ -9,7 +9,6 @@ mod files;
 mod leading;
 mod links;
 mod marks;
-mod places;
 mod pointers;
 mod reach;
 mod read_file;

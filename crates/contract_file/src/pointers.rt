@@ -19,6 +19,7 @@ fn leads(file: &File, from: u16, to: u16, sort: Sort) -> bool
 }
 
 /// Is a pointer none, or does it lead up to an entry of this sort?
+// Kept with 0 for none: the file's layout has it so, and place 0 is lost.
 fn ends_or_leads(file: &File, from: u16, to: u16, sort: Sort) -> bool
     ensures { Decides result (EndsOrLeads file.now from to sort) }
 {

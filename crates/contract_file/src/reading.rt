@@ -22,17 +22,15 @@ pub const HEAD_BYTES: usize = 8;
 pub const FILE_BYTES: usize = HEAD_BYTES + ENTRY_BYTES * MOST_ENTRIES as usize;
 
 /// Reads the entries behind the head into a table.
-fn table(bytes: &[u8], count: u16) -> Result<[Entry; PLACES], Fault>
-    requires told { count ≡ count_of bytes.now }
-    requires long { RightLength bytes.now }
+fn table(bytes: &[u8]) -> Result<[Entry; PLACES], Fault>
+    requires { RightLength bytes.now }
     ensures answer { Asked (EntriesListed bytes.now) Unlisted result }
     ensures value { IfOk result (λ es. es ≡ table_of bytes.now) }
     ensures listed { IfOk result (λ es. (i : ℕ) → Listed (at es i)) }
 {
     let mut entries = [Entry::Lost; PLACES];
-    for i in 1..count + 1 {
-        let at = ENTRY_BYTES * i as usize - HEAD_BYTES;
-        entries[i as usize] = decode(&bytes[at..at + ENTRY_BYTES]).ok_or(Fault::Unlisted(i))?;
+    for (i, entry) in bytes[HEAD_BYTES..].chunks_exact(ENTRY_BYTES).enumerate() {
+        entries[i + 1] = decode(entry).ok_or(Fault::Unlisted(i as u16 + 1))?;
     }
     Ok(entries)
 }
@@ -46,13 +44,13 @@ fn parse(bytes: &[u8]) -> Result<ParsedFile, Fault>
         return Err(Fault::Length);
     };
     let count = two_bytes(*n1, *n2);
-    if count < 1 || count > MOST_ENTRIES || rest.len() != ENTRY_BYTES * count as usize {
+    if !(1..=MOST_ENTRIES).contains(&count) || rest.len() != ENTRY_BYTES * usize::from(count) {
         return Err(Fault::Length);
     }
     if *version != 1 {
         return Err(Fault::Version);
     }
-    let entries = table(bytes, count)?;
+    let entries = table(bytes)?;
     let file = File {
         kind: *kind,
         count,

@@ -1,7 +1,6 @@
 use Rattle.std.proofs.Common.{◌≡◌, ℕ, ◌<◌, ltb, Decides, IsTrue, MatchOption, sym, ◌∙◌, rules, tests, arith}
 use Rattle.std.proofs.lemmas.Bool.Decides.{Decides-ltb, Decides-like}
-use Rattle.entries.specs.declared.entries.Entry.TheVariants.{Lost}
-use Rattle.entries.specs.Parts.{at, sides}
+use Rattle.entries.specs.Parts.{sides}
 use Rattle.contract_file.specs.Marks.{mark}
 use Rattle.contract_file.proofs.Everywhere.{numbered}
 use Rattle.contract_file.proofs.Facts.{known_parsed}

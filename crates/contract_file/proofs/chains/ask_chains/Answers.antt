@@ -1,5 +1,4 @@
 use Rattle.std.proofs.Common.{◌≡◌, ℕ, length, rules, arith}
-use Rattle.entries.specs.Parts.{at}
 use Rattle.contract_file.specs.declared.faults.Fault.TheVariants.{Chain}
 use Rattle.contract_file.specs.Chains.{Numbered, Rising, Chained}
 use Rattle.contract_file.proofs.Asked.{asked}

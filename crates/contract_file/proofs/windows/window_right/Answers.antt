@@ -19,7 +19,7 @@ returns-else-matches c =
       | in-FromBase w ↦ (let z : ◌≡◌ {A = ℕ} 0 1 = cc in absurd (omega arith))
       | in_default-matches w ↦ (
           rw is (Decides-like c.is_none.result
-            (λ apart. record { order = c.if-window-le-LAST_DAY.true.0; limit = c.if-window-le-LAST_DAY.true.1; apart = λ _. apart })
-            (λ right. right.apart w.in_default-matches.is)
-            unreached))
+          (λ apart. record { order = c.if-window-le-LAST_DAY.true.0; limit = c.if-window-le-LAST_DAY.true.1; apart = λ _. apart })
+          (λ right. right.apart w.in_default-matches.is)
+          unreached))
     ]
