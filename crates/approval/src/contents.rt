@@ -30,7 +30,8 @@ impl Checked {
     pub fn into_openings(self) -> Openings
         ensures { result ≡ self.openings }
     {
-        self.openings
+        let Checked { openings, .. } = self;
+        openings
     }
 
     /// The read file, for which the checked one is spent.

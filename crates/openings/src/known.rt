@@ -45,7 +45,8 @@ impl Openings {
     pub fn into_read(self) -> ReadFile
         ensures { result ≡ self.read }
     {
-        self.read
+        let Openings { read, .. } = self;
+        read
     }
 
     /// What each entry opens to, at its number.
