@@ -1,6 +1,5 @@
 -- What is computed is the answer.
-use Rattle.std.proofs.Common.{◌≡◌, ℕ, ◌≤◌, Bool, List, [], Result, sym, refl, subst, arith}
-use Rattle.std.proofs.lemmas.List.{get_or_past}
+use Rattle.std.proofs.Common.{◌≡◌, ℕ, ◌≤◌, Bool, List, [], Result, refl, arith}
 use Rattle.std.proofs.lemmas.Bool.Decides.{Decides-eqb}
 use Rattle.kinds.specs.declared.fields.Test.{Test}
 use Rattle.entries.specs.declared.entries.Entry.{Entry}
@@ -42,7 +41,7 @@ module _ (number : ℕ) (admits : ℕ → Test → Bool) (day : ℕ) (b : List �
   past_pointers i ge = ((λ head. absurd (omega arith)), at_lost (EntryLeads f i) i ge tt)
 
   past_chained : (i : ℕ) → 257 ≤ i → Chained f i
-  past_chained i ge = (at_lost (Numbered f i) i ge (λ k c n q. absurd (let z : ◌≡◌ {A = ℕ} 0 1 = cc in omega arith)), at_lost (Rising f i) i ge tt)
+  past_chained i ge = (at_lost (Numbered f i) i ge (λ k c n q. cc), at_lost (Rising f i) i ge tt)
 
   -- what the questions that are passed tell of the file
   right_length : (n : ℕ) → 2 ≤ n → Below questions n → RightLength b

@@ -92,19 +92,19 @@ module _ (f : File) where
 
   -- 5
   decides_numbered : (i : ℕ) (e : Entry) → Decides (numbered_test f i e) (Numbered f i e)
-  decides_numbered i Lost = ((λ _ k b n q. absurd (let z : ◌≡◌ {A = ℕ} 0 1 = cc in omega arith)), (λ _. refl))
-  decides_numbered i Done = ((λ _ k b n q. absurd (let z : ◌≡◌ {A = ℕ} 0 1 = cc in omega arith)), (λ _. refl))
-  decides_numbered i (Step w t cs) = ((λ _ k b n q. absurd (let z : ◌≡◌ {A = ℕ} 0 1 = cc in omega arith)), (λ _. refl))
-  decides_numbered i (Choice l r) = ((λ _ k b n q. absurd (let z : ◌≡◌ {A = ℕ} 0 1 = cc in omega arith)), (λ _. refl))
-  decides_numbered i (Both l r) = ((λ _ k b n q. absurd (let z : ◌≡◌ {A = ℕ} 0 1 = cc in omega arith)), (λ _. refl))
-  decides_numbered i (Then l r) = ((λ _ k b n q. absurd (let z : ◌≡◌ {A = ℕ} 0 1 = cc in omega arith)), (λ _. refl))
-  decides_numbered i (Call t a) = ((λ _ k b n q. absurd (let z : ◌≡◌ {A = ℕ} 0 1 = cc in omega arith)), (λ _. refl))
+  decides_numbered i Lost = ((λ _ k b n q. cc), (λ _. refl))
+  decides_numbered i Done = ((λ _ k b n q. cc), (λ _. refl))
+  decides_numbered i (Step w t cs) = ((λ _ k b n q. cc), (λ _. refl))
+  decides_numbered i (Choice l r) = ((λ _ k b n q. cc), (λ _. refl))
+  decides_numbered i (Both l r) = ((λ _ k b n q. cc), (λ _. refl))
+  decides_numbered i (Then l r) = ((λ _ k b n q. cc), (λ _. refl))
+  decides_numbered i (Call t a) = ((λ _ k b n q. cc), (λ _. refl))
   decides_numbered i (Template t c m) = (
     (λ e k b n q. let same : t ≡ k = cc in ap (chain f) (sym same) ∙ eqb-true _ _ e),
     (λ h. eq-eqb _ _ (h t c m refl)),
   )
-  decides_numbered i (Condition t q n) = ((λ _ k b n' e. absurd (let z : ◌≡◌ {A = ℕ} 0 1 = cc in omega arith)), (λ _. refl))
-  decides_numbered i (Argument t v n) = ((λ _ k b n' e. absurd (let z : ◌≡◌ {A = ℕ} 0 1 = cc in omega arith)), (λ _. refl))
+  decides_numbered i (Condition t q n) = ((λ _ k b n' e. cc), (λ _. refl))
+  decides_numbered i (Argument t v n) = ((λ _ k b n' e. cc), (λ _. refl))
 
 decides_never : Decides false ⊥
 decides_never = ((λ e. false≢true e), (λ h. absurd h))

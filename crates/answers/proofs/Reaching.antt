@@ -22,7 +22,7 @@ use Rattle.answers.proofs.Deciding.{decides_nothing, decides_leb, decides_if}
 
 -- a window's days are counted by the calendar
 dated_is : (c : Counted) → Decides (by_calendar c) (c ≡ ByCalendar)
-dated_is FromBase = ((λ e. let z : ◌≡◌ {A = ℕ} 0 1 = cc in absurd (omega arith)), (λ is. let z : ◌≡◌ {A = ℕ} 0 1 = cc in absurd (omega arith)))
+dated_is FromBase = ((λ e. cc), (λ is. cc))
 dated_is ByCalendar = ((λ _. refl), (λ _. refl))
 
 -- less than a mark
@@ -57,7 +57,7 @@ module _ (f : File) (up : Leading f) where
   decides_call i (Then l r) is = decides_nothing
   decides_call i (Call t a) is =
       let bare = reached sides f in
-      let there : 0 < i = numbered es i (λ lost. let z : ◌≡◌ {A = ℕ} 0 1 = cc in omega arith) up.nowhere in
+      let there : 0 < i = numbered es i (λ lost. cc) up.nowhere in
       let below = decides_below sides es bare (lowest_reach sides sides_follow) i there t (below_mark t (mark bare i)) (decides_below_mark t (mark bare i)) in
       Decides-like _ (λ h. record { named = h.0; below = h.1 }) (λ right. (right.named, right.below)) (Decides-and _ _ (Decides-ltb 0 (chain f t)) below)
   decides_call i (Template k b n) is = decides_nothing
@@ -73,7 +73,7 @@ module _ (f : File) (up : Leading f) where
   decides_window i Done is = decides_nothing
   decides_window i (Step w t cs) is =
       let marks = reached pointers f in
-      let there : 0 < i = numbered es i (λ lost. let z : ◌≡◌ {A = ℕ} 0 1 = cc in omega arith) up.nowhere in
+      let there : 0 < i = numbered es i (λ lost. cc) up.nowhere in
       let unreached = decides_unreached pointers es marks (lowest_reach pointers pointers_follow) i there (is_none (mark marks i)) (no_mark (mark marks i)) in
       Decides-like _
       (λ h. record { order = h.0.0; limit = h.0.1; apart = h.1 })

@@ -1,5 +1,5 @@
 -- The file of a new place is sound.
-use Rattle.std.proofs.Common.{◌≡◌, ℕ, sym, refl, subst, arith}
+use Rattle.std.proofs.Common.{ℕ, sym, refl, subst, arith}
 use Rattle.entries.specs.declared.entries.Entry.{Entry}
 use Rattle.entries.specs.declared.entries.Entry.TheVariants.{Lost}
 use Rattle.entries.specs.Parts.{at, Listed}
@@ -29,7 +29,7 @@ fresh_sound = record {
   };
   pointers = λ i. ((λ _. head), by_lost (EntryLeads fresh i) i tt);
   chains = λ i. (
-    by_lost (Numbered fresh i) i (λ k b n q. absurd (let z : ◌≡◌ {A = ℕ} 0 1 = cc in omega arith)),
+    by_lost (Numbered fresh i) i (λ k b n q. cc),
     by_lost (Rising fresh i) i tt,
   );
   calls = λ i. by_lost (CallRight fresh i) i tt;

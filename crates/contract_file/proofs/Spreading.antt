@@ -43,7 +43,7 @@ module _ (way : Entry → ℕ × ℕ) (es : List Entry) where
   pub none_passed : Spread (replicate 257 None) 0
   none_passed = record {
     long = refl;
-    real = λ t k some is. absurd (let no : None ≡ Some t = sym (unmarked 257 k) ∙ is in let z : ◌≡◌ {A = ℕ} 0 1 = cc in omega arith);
+    real = λ t k some is. absurd (let no : None ≡ Some t = sym (unmarked 257 k) ∙ is in cc);
     bodies = λ j t b n lt is. absurd (omega arith);
     went = λ j k t some lt to is. absurd (omega arith);
   }
@@ -78,16 +78,16 @@ module _ (way : Entry → ℕ × ℕ) (es : List Entry) where
 
   begins : (e : Entry) → Begins e
   unfolding Begins
-  begins Lost = inr ((λ _. refl), (λ t b n q. let z : ◌≡◌ {A = ℕ} 0 1 = cc in omega arith))
-  begins Done = inr ((λ _. refl), (λ t b n q. let z : ◌≡◌ {A = ℕ} 0 1 = cc in omega arith))
-  begins (Step _ _ _) = inr ((λ _. refl), (λ t b n q. let z : ◌≡◌ {A = ℕ} 0 1 = cc in omega arith))
-  begins (Choice _ _) = inr ((λ _. refl), (λ t b n q. let z : ◌≡◌ {A = ℕ} 0 1 = cc in omega arith))
-  begins (Both _ _) = inr ((λ _. refl), (λ t b n q. let z : ◌≡◌ {A = ℕ} 0 1 = cc in omega arith))
-  begins (Then _ _) = inr ((λ _. refl), (λ t b n q. let z : ◌≡◌ {A = ℕ} 0 1 = cc in omega arith))
-  begins (Call _ _) = inr ((λ _. refl), (λ t b n q. let z : ◌≡◌ {A = ℕ} 0 1 = cc in omega arith))
+  begins Lost = inr ((λ _. refl), (λ t b n q. cc))
+  begins Done = inr ((λ _. refl), (λ t b n q. cc))
+  begins (Step _ _ _) = inr ((λ _. refl), (λ t b n q. cc))
+  begins (Choice _ _) = inr ((λ _. refl), (λ t b n q. cc))
+  begins (Both _ _) = inr ((λ _. refl), (λ t b n q. cc))
+  begins (Then _ _) = inr ((λ _. refl), (λ t b n q. cc))
+  begins (Call _ _) = inr ((λ _. refl), (λ t b n q. cc))
   begins (Template t b n) = inl (t, b, n, refl)
-  begins (Condition _ _ _) = inr ((λ _. refl), (λ t b n q. let z : ◌≡◌ {A = ℕ} 0 1 = cc in omega arith))
-  begins (Argument _ _ _) = inr ((λ _. refl), (λ t b n q. let z : ◌≡◌ {A = ℕ} 0 1 = cc in omega arith))
+  begins (Condition _ _ _) = inr ((λ _. refl), (λ t b n q. cc))
+  begins (Argument _ _ _) = inr ((λ _. refl), (λ t b n q. cc))
 
   -- the body of entry i is noted
   pub record Started (marks : List (Option ℕ)) (i : ℕ) : Type 0 where
@@ -143,7 +143,7 @@ module _ (way : Entry → ℕ × ℕ) (es : List Entry) where
               | inr above ↦
                   let e : j ≡ i = omega arith in
                   let no : None ≡ Some t = sym is ∙ sym (ap (mark marks) e) ∙ q in
-                  absurd (let z : ◌≡◌ {A = ℕ} 0 1 = cc in omega arith)
+                  cc
             ];
       }
       passed_by (Some here) is =
@@ -204,7 +204,7 @@ module _ (way : Entry → ℕ × ℕ) (es : List Entry) where
         within j some = elim (cases_lt j i) [ inl lt ↦ lt | inr ge ↦ absurd (some (get_or_past es j Lost (omega arith))) ]
 
         least : (t k : ℕ) → Reached way es t k → AtMost (mark marks k) t
-        least t k (at_body j b n is) = s.bodies j t b n (within j (λ lost. let z : ◌≡◌ {A = ℕ} 0 1 = cc in omega arith)) is
+        least t k (at_body j b n is) = s.bodies j t b n (within j (λ lost. cc)) is
         least t k (further j x r to) =
             elim (cases_eq j 0) [
               | inl z ↦ absurd (lost_ends (at es j) k (ap (at es) z ∙ nowhere) to)

@@ -1,4 +1,4 @@
-use Rattle.std.proofs.Common.{◌≡◌, ℕ, ◌<◌, ltb, length, Decides, IsTrue, MatchOption, sym, ◌∙◌, inl, inr, rules, tests, arith}
+use Rattle.std.proofs.Common.{◌≡◌, ◌<◌, ltb, length, Decides, IsTrue, MatchOption, sym, ◌∙◌, inl, inr, rules, tests, arith}
 use Rattle.std.proofs.lemmas.Bool.Decides.{Decides-ltb}
 use Rattle.entries.specs.Parts.{at}
 use Rattle.entries.specs.declared.entries.Entry.TheVariants.{Lost}
@@ -18,7 +18,7 @@ returns-in-Condition c =
     let told : MatchOption c.of.result (IsTrue b) (λ m. b ≡ ltb m rank) = search (rules, tests) in
     let over : Decides b (Exceeds (mark c.args.floors.now.marks i) rank) = rw (← c.of.ensures) (decides_if_some c.of.result b (λ m b. b ≡ ltb m rank) (λ m. m < rank) told (λ m k. rw k (Decides-ltb m rank))) in
     let long : length f.entries ≡ 257 = omega arith in
-    let some : at f.entries i ≡ Lost → ⊥ = λ lost. elim c.in-Condition.is [ inl (test, next, is) ↦ (let z : ◌≡◌ {A = ℕ} 0 1 = cc in omega arith) | inr (value, next, is) ↦ (let z : ◌≡◌ {A = ℕ} 0 1 = cc in omega arith) ] in
+    let some : at f.entries i ≡ Lost → ⊥ = λ lost. elim c.in-Condition.is [ inl (test, next, is) ↦ (cc) | inr (value, next, is) ↦ (cc) ] in
     let small = before_end f.entries i some in
     let both = decides_above f long c.args.floors.now.marks c.requires i (omega arith) rank b over in
     elim c.in-Condition.is [ inl (test, next, is) ↦ rw (sym c.at.ensures ∙ is) both | inr (value, next, is) ↦ rw (sym c.at.ensures ∙ is) both ]

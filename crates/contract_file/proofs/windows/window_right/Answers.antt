@@ -1,4 +1,4 @@
-use Rattle.std.proofs.Common.{◌≡◌, ℕ, is_some, sym, ap, ◌∙◌, arith}
+use Rattle.std.proofs.Common.{is_some, sym, ap, ◌∙◌}
 use Rattle.std.proofs.lemmas.Bool.Decides.{Decides-like}
 use Rattle.entries.specs.Parts.{pointers}
 use Rattle.contract_file.proofs.Everywhere.{numbered}
@@ -13,10 +13,10 @@ returns-else-matches c =
     let es = f.entries in
     let i = c.args.i in
     let is = sym c.at.ensures ∙ c.in-Step.is in
-    let there = numbered es i (λ lost. let z : ◌≡◌ {A = ℕ} 0 1 = cc in omega arith) (known_parsed f c.args.leading.now.parsed).nowhere in
+    let there = numbered es i (λ lost. cc) (known_parsed f c.args.leading.now.parsed).nowhere in
     let unreached = decides_unreached pointers es c.args.reached.now.marks c.requires i there c.is_none.result (ap is_some (sym c.of.ensures) ∙ c.is_none.ensures) in
     elim c.match-matches.branch [
-      | in-FromBase w ↦ (let z : ◌≡◌ {A = ℕ} 0 1 = cc in absurd (omega arith))
+      | in-FromBase w ↦ (cc)
       | in_default-matches w ↦ (
           rw is (Decides-like c.is_none.result
           (λ apart. record { order = c.if-window-le-LAST_DAY.true.0; limit = c.if-window-le-LAST_DAY.true.1; apart = λ _. apart })
