@@ -33,11 +33,11 @@ module _ {A F : Type 0} (G : Shared F (ℕ × (Bor (List A) × Unit {0})) A) (ru
             let inside : p < length table = omega (arith, before.long) in
             let it : v ≡ get_or (set table p v) p untold = sym (get_or-set_same table p v untold inside) in
             subst (λ j. Gives G rule j (told_past untold (set table p v) j) (get_or (set table p v) j untold)) same
-            (given.0, given.1 ∙ sym here, subst (λ x. G.post rule (p, (given.0, tt)) x) it given.2))
+            record { seen = given.seen; shows = given.shows ∙ sym here; says = subst (λ x. G.post rule (p, (given.seen, tt)) x) it given.says })
         | no e ↦ (let ne : i ≢ p = omega arith in
             let g = before.told i (omega arith) h in
             let it : get_or table i untold ≡ get_or (set table p v) i untold = sym (get_or-set_other table p i v untold ne) in
-            (g.0, g.1 ∙ sym (others i (omega arith)), subst (λ x. G.post rule (i, (g.0, tt)) x) it g.2))
+            record { seen = g.seen; shows = g.shows ∙ sym (others i (omega arith)); says = subst (λ x. G.post rule (i, (g.seen, tt)) x) it g.says })
       ];
       rest = below;
     }

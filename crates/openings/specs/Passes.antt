@@ -8,5 +8,7 @@ abbrev pub told_past : {A : Type 0} → A → List A → ℕ → List A
 told_past untold table i = replicate (i + 1) untold ++ drop (i + 1) table
 
 -- The rule may give the value for a place, where the table stands as given.
-abbrev pub Gives : {F A : Type 0} → Shared F (ℕ × (Bor (List A) × Unit {0})) A → F → ℕ → List A → A → Type 0
-Gives {F} {A} G rule i table value = (seen : Bor (List A)) × (seen.now ≡ table) × G.post rule (i, (seen, tt)) value
+pub record Gives {F A : Type 0} (G : Shared F (ℕ × (Bor (List A) × Unit {0})) A) (rule : F) (i : ℕ) (table : List A) (value : A) : Type 0 where
+  pub seen : Bor (List A)
+  pub shows : seen.now ≡ table
+  pub says : G.post rule (i, (seen, tt)) value
