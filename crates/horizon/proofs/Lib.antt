@@ -1,3 +1,4 @@
 pub mod Rows
 pub mod Telling
+pub mod Adding
 pub mod Freshly

@@ -1,9 +1,6 @@
 //! The earliest end of each entry's clause, by its base day.
 #![tactic(auto)]
 
-mod filling;
 mod horizon;
-mod lookup;
 
-pub use horizon::Horizon;
-pub use lookup::DAYS;
+pub use horizon::{DAYS, Horizon};

@@ -20,7 +20,7 @@ use Rattle.openings.proofs.Downward.{past_is}
 use Rattle.openings.proofs.Unfolding.{Leading, leads_at, unfolds, unfolds_past}
 use Rattle.spans.specs.Rounds.{of, following, entry_lasts, lasts, Passed}
 
-after_same : (x : Option ℕ) (f g : ℕ → Option ℕ) → Attained x (λ d. d ≤ 65535) → ((n : ℕ) → n ≤ 65535 → f n ≡ g n) → after x f ≡ after x g
+pub after_same : (x : Option ℕ) (f g : ℕ → Option ℕ) → Attained x (λ d. d ≤ 65535) → ((n : ℕ) → n ≤ 65535 → f n ≡ g n) → after x f ≡ after x g
 after_same None f g h k = refl
 after_same (Some n) f g h k = k n h
 
