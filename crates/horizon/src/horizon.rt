@@ -6,7 +6,7 @@ ghost use Rattle.horizon.specs.Foretelling.{end_by, Foretells};
 ghost use Rattle.horizon.specs.Filling.{entry_end, RowAdded};
 
 use contract_file::{PLACES, ReadFile};
-use days::{Window, day_after, earlier, later};
+use days::{day_after, earlier, later};
 use entries::Entry;
 use kinds::LAST_DAY;
 use spans::{Span, entry_spans, row_count, span_at};
@@ -75,20 +75,7 @@ impl Horizon {
     {
         match entry {
             Entry::Done => Some(base),
-            Entry::Step {
-                calendar,
-                tail,
-                first,
-                last,
-                ..
-            } => {
-                let window = Window {
-                    calendar,
-                    first,
-                    last,
-                };
-                self.end(tail, window.reach(base, base)?)
-            }
+            Entry::Step { window, tail, .. } => self.end(tail, window.reach(base, base)?),
             Entry::Choice { left, right } => earlier(self.end(left, base), self.end(right, base)),
             Entry::Both { left, right } => later(self.end(left, base), self.end(right, base)),
             Entry::Then { left, right } => self.end(right, self.end(left, base)?),

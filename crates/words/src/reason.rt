@@ -4,6 +4,7 @@ ghost use Rattle.std.specs.Prelude.{◌≡◌, slice_index};
 use crate::names::Names;
 use crate::test_words::TestWords;
 use contract_file::{FILE_BYTES, Fault, HEAD_BYTES};
+use days::Window;
 use entries::{ENTRY_BYTES, Entry, decode};
 use kinds::LAST_DAY;
 use std::fmt;
@@ -140,7 +141,8 @@ fn call<W: fmt::Write>(bytes: &[u8], i: u16, f: &mut fmt::Formatter<W>) -> fmt::
 
 fn window<W: fmt::Write>(bytes: &[u8], i: u16, f: &mut fmt::Formatter<W>) -> fmt::Result {
     match entry_in(bytes, i) {
-        Some(Entry::Step { first, last, .. }) => {
+        Some(Entry::Step { window, .. }) => {
+            let Window { first, last, .. } = window;
             if first > last {
                 write!(
                     f,
