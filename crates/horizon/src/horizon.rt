@@ -19,6 +19,7 @@ pub const DAYS: usize = LAST_DAY as usize + 1;
 #[derive(Drop)]
 pub struct Horizon {
     pub(crate) spans: [Span; PLACES],
+    // Kept as one list of cells: a list for each row would take memory row by row, and `over` takes it all at once.
     pub(crate) rows: Vec<Option<u16>>,
 }
 

@@ -2,5 +2,7 @@
 #![tactic(auto)]
 
 mod horizon;
+mod prospect;
 
 pub use horizon::{DAYS, Horizon};
+pub use prospect::Prospect;
