@@ -1,7 +1,9 @@
 -- The nodes of a term in their order have its leaves, and their numbers are what is due.
-use Rattle.std.proofs.Common.{◌≡◌, ℕ, ◌+◌, ◌*◌, ◌/◌, ◌<◌, ◌≤◌, cond, List, [], ◌∷◌, ◌++◌, length, take, drop, Ok, Err, count_by, sym, refl, ap, ◌∙◌, ap₂, append-nil, arith}
-use Rattle.std.proofs.lemmas.List.{drop_more, drop-drop, take-append-drop, take-take, drop-take}
-use Rattle.std.proofs.lemmas.List.Sums.{sum_by-append}
+use Rattle.std.proofs.Common.{◌≡◌, ℕ, ◌+◌, ◌*◌, ◌/◌, ◌<◌, ◌≤◌, List, [], ◌∷◌, ◌++◌, length, take, drop, Ok, Err, sym, refl, ap, ◌∙◌, ap₂, append-nil, arith, length-append}
+use Rattle.std.proofs.lemmas.List.{take_all, drop_more, drop-drop, take-append-drop, take-take, drop-take}
+use Rattle.std.specs.List.{filter_map, flat_map}
+use Rattle.std.proofs.lemmas.List.Elements.{filter_map-append}
+use Rattle.std.proofs.lemmas.Grind.{flat_map-append}
 use Rattle.kinds.specs.declared.fields.Conditions.{Conditions}
 use Rattle.language.specs.Clauses.{Window, Clause, step, first, last}
 use Rattle.language.specs.Terms.{Term, Done, Lost, Leaf, Choice, Both, Follow, nodes}
@@ -16,9 +18,10 @@ use Rattle.terms.specs.declared.nodes.Node.{Node}
 use Rattle.terms.specs.declared.nodes.Node.TheVariants as node
 use Rattle.terms.specs.Tables.{Is, Holds}
 use Rattle.due.specs.Dues.{leaves, dues}
-use Rattle.due.specs.Items.{item_by, due_item, numbers, is_leaf, due_numbers, over}
+use Rattle.due.specs.declared.items.Due.{Due}
+use Rattle.due.specs.Items.{item_by, due_item, numbers, node_due, over}
 use Rattle.due.specs.Lists.{Listed}
-use Rattle.due.proofs.Writing.{due_append, due_length}
+use Rattle.due.proofs.Writing.{numbers_long}
 
 -- so many nodes from a place on
 abbrev part : List Node → ℕ → ℕ → List Node
@@ -40,17 +43,28 @@ sides ns at k m n h =
     under ns at (k + m) n h ∙ ap (λ l. n ∷ l) (take_part k m (drop (at + 1) ns) ∙ ap (λ l. part ns (at + 1) k ++ take m l) (drop-drop k (at + 1) ns))
 
 module _ (f : File) where
-  pub counted : (ns : List Node) (at : ℕ) (t : Term) → Holds f ns at t → count_by is_leaf (part ns at (nodes t)) ≡ leaves t
-  counted ns at Done h = ap (count_by is_leaf) (root ns at _ h)
-  counted ns at Lost h = ap (count_by is_leaf) (root ns at _ h)
-  counted ns at (Leaf e w cs tail row base) h = ap (count_by is_leaf) (root ns at _ h.0)
+  abbrev pub items : List Node → List Due
+  items ns = filter_map (node_due f) ns
+
+  pub counted : (ns : List Node) (at : ℕ) (t : Term) → Holds f ns at t → length (items (part ns at (nodes t))) ≡ leaves t
+  counted ns at Done h = ap (λ l. length (items l)) (root ns at _ h)
+  counted ns at Lost h = ap (λ l. length (items l)) (root ns at _ h)
+  counted ns at (Leaf e w cs tail row base) h = ap (λ l. length (items l)) (root ns at _ h.0)
   counted ns at (Choice l r) h =
-      ap (count_by is_leaf) (sides ns at (nodes l) (nodes r) _ h.0) ∙ sum_by-append (λ x. cond (is_leaf x) 1 0) (part ns (at + 1) (nodes l)) (part ns (at + 1 + nodes l) (nodes r))
+      ap (λ l. length (items l)) (sides ns at (nodes l) (nodes r) _ h.0) ∙ ap length (filter_map-append (node_due f) (part ns (at + 1) (nodes l)) (part ns (at + 1 + nodes l) (nodes r)))
+      ∙ length-append (items (part ns (at + 1) (nodes l))) (items (part ns (at + 1 + nodes l) (nodes r)))
       ∙ ap₂ ◌+◌ (counted ns (at + 1) l h.1) (counted ns (at + 1 + nodes l) r h.2)
   counted ns at (Both l r) h =
-      ap (count_by is_leaf) (sides ns at (nodes l) (nodes r) _ h.0) ∙ sum_by-append (λ x. cond (is_leaf x) 1 0) (part ns (at + 1) (nodes l)) (part ns (at + 1 + nodes l) (nodes r))
+      ap (λ l. length (items l)) (sides ns at (nodes l) (nodes r) _ h.0) ∙ ap length (filter_map-append (node_due f) (part ns (at + 1) (nodes l)) (part ns (at + 1 + nodes l) (nodes r)))
+      ∙ length-append (items (part ns (at + 1) (nodes l))) (items (part ns (at + 1 + nodes l) (nodes r)))
       ∙ ap₂ ◌+◌ (counted ns (at + 1) l h.1) (counted ns (at + 1 + nodes l) r h.2)
-  counted ns at (Follow t c row) h = ap (count_by is_leaf) (under ns at (nodes t) _ h.1) ∙ counted ns (at + 1) t h.3
+  counted ns at (Follow t c row) h = ap (λ l. length (items l)) (under ns at (nodes t) _ h.1) ∙ counted ns (at + 1) t h.3
+
+  abbrev pub due_numbers : List Node → List ℕ
+  due_numbers ns = flat_map numbers (items ns)
+
+  due_append : (xs ys : List Node) → due_numbers (xs ++ ys) ≡ due_numbers xs ++ due_numbers ys
+  due_append xs ys = ap (flat_map numbers) (filter_map-append (node_due f) xs ys) ∙ flat_map-append numbers (items xs) (items ys)
 
 module _ (f : File) (up : Leading f) where
   leaf_item : (e base : ℕ) (w : Window) (cs : Conditions) (tail : Clause) → clause_at f e ≡ step e w cs tail → numbers (due_item f e base) ≡ e ∷ first w base ∷ last w base ∷ []
@@ -80,22 +94,21 @@ module _ (f : File) (up : Leading f) where
       ∙ ap₂ ◌++◌ (due ns (at + 1) l h.1) (due ns (at + 1 + nodes l) r h.2)
   due ns at (Follow t c row) h = ap (due_numbers f) (under ns at (nodes t) _ h.1) ∙ due ns (at + 1) t h.3
 
-module _ (f : File) (ns used : List Node) (before : List ℕ) (len count : ℕ) (in_use : used ≡ take len ns) (is : count ≡ count_by is_leaf used) where
-  module _ (t : Term) (held : Holds f ns 0 t) (long : len ≡ nodes t) where
-    whole : used ≡ part ns 0 (nodes t)
-    whole = in_use ∙ ap (λ n. take n ns) long
+module _ (f : File) (ns : List Node) (before : List ℕ) (dues : List Due) (all : dues ≡ filter_map (node_due f) ns) (t : Term) (held : Holds f ns 0 t) (long : length ns ≡ nodes t) where
+  whole : ns ≡ part ns 0 (nodes t)
+  whole = sym (take_all (nodes t) ns (omega arith))
 
-    leaves_are : count ≡ leaves t
-    leaves_are = is ∙ ap (count_by is_leaf) whole ∙ counted f ns 0 t held
+  leaves_are : length dues ≡ leaves t
+  leaves_are = ap length all ∙ ap (λ l. length (items f l)) whole ∙ counted f ns 0 t held
 
-    pub refused : length before / 3 < count → Listed t before before (Err (record {}))
-    refused few = record { enough = λ fits. absurd (omega (arith, leaves_are)); short = λ _. (refl, refl) }
+  pub refused : length before / 3 < length dues → Listed t before before (Err (record {}))
+  refused few = record { enough = λ fits. absurd (omega (arith, leaves_are)); short = λ _. (refl, refl) }
 
-    pub listed : Leading f → (after : List ℕ) → count ≤ length before / 3 → after ≡ over (due_numbers f used) before → Listed t before after (Ok count)
-    listed up after fits wrote = record {
-      enough = λ _. (
-        ap Ok leaves_are,
-        wrote ∙ ap₂ (λ front n. front ++ drop n before) (ap (due_numbers f) whole ∙ due f up ns 0 t held) (due_length f used ∙ ap (λ n. 3 * n) (sym is ∙ leaves_are)),
-      );
-      short = λ few. absurd (omega (arith, leaves_are));
-    }
+  pub listed : Leading f → (after : List ℕ) (count : ℕ) → count ≡ length dues → length dues ≤ length before / 3 → after ≡ over (flat_map numbers dues) before → Listed t before after (Ok count)
+  listed up after count is fits wrote = record {
+    enough = λ _. (
+      ap Ok (is ∙ leaves_are),
+      wrote ∙ ap₂ (λ front n. front ++ drop n before) (ap (flat_map numbers) all ∙ ap (due_numbers f) whole ∙ due f up ns 0 t held) (numbers_long dues ∙ ap (λ n. 3 * n) leaves_are),
+    );
+    short = λ few. absurd (omega (arith, leaves_are));
+  }

@@ -1,17 +1,20 @@
 //! The due list: an item for each leaf of a term, left to right, in a list that is lent.
-ghost use Rattle.std.specs.Prelude.{◌≡◌, ◌*◌, ◌≤◌, length, take, count_by};
+ghost use Rattle.std.specs.Prelude.{◌≡◌, ◌*◌, ◌≤◌, length};
+ghost use Rattle.std.specs.List.{filter_map, flat_map};
 ghost use Rattle.language.specs.Terms.{Term, nodes};
 ghost use Rattle.terms.specs.Tables.{Holds};
-ghost use Rattle.due.specs.Items.{is_leaf, due_numbers, over};
+ghost use Rattle.due.specs.Items.{node_due, numbers, over};
 ghost use Rattle.due.specs.Lists.{Listed};
 
-use crate::items::{ITEM, due_item, write_item};
+use crate::items::{Due, ITEM};
+use arrayvec::ArrayVec;
 use contract_file::File;
-use openings::Openings;
-use terms::{Node, Table};
+use openings::{MOST_NODES, Openings};
+use terms::Table;
 
 /// Question 18 was answered no: has the lent list three places for each leaf?
-#[derive(Clone, Copy)]
+// Kept as a type of its own beside `TooLarge`: each call has this one way to fail.
+#[derive(Clone, Copy, Debug, PartialEq, Eq)]
 pub struct ShortList;
 
 impl ShortList {
@@ -23,52 +26,40 @@ impl ShortList {
     }
 }
 
-/// The nodes in use.
-fn in_use(table: &Table) -> &[Node]
-    ensures { result.now ≡ take table.now.len table.now.nodes }
+/// What is due of a term, leaf by leaf.
+fn dues_of(file: &File, table: &Table) -> ArrayVec<Due, MOST_NODES>
+    ensures { result.items ≡ filter_map (node_due file.now) table.now.items }
 {
-    let nodes: &[Node] = &table.nodes;
-    let len = nodes.len().min(table.len as usize);
-    &nodes[..len]
-}
-
-/// How many nodes are leaves.
-fn leaf_count(nodes: &[Node]) -> usize
-    ensures { result ≡ count_by is_leaf nodes.now }
-{
-    let mut count = 0;
+    let nodes = table.as_slice();
+    let mut dues = ArrayVec::new();
     for node in nodes {
-        if let Node::Leaf { .. } = *node {
-            count += 1;
+        if let Some(due) = Due::of(file, node) {
+            dues.push(due);
         }
     }
-    count
+    dues
 }
 
-/// Writes the items of the leaves into the front of a list, one behind the other.
-fn write_items(file: &File, nodes: &[Node], list: &mut [u64])
-    requires { 3 * count_by is_leaf nodes.now ≤ length list.old }
-    ensures { list.new ≡ over (due_numbers file.now nodes.now) list.old }
+/// Writes items into the front of a list, one behind the other.
+fn write_dues(dues: &[Due], list: &mut [u64])
+    requires { 3 * length dues.now ≤ length list.old }
+    ensures { list.new ≡ over (flat_map numbers dues.now) list.old }
 {
-    let mut place = 0;
-    for node in nodes {
-        if let Node::Leaf { step, base, .. } = *node {
-            write_item(list, place, due_item(file, step, base));
-            place += ITEM;
-        }
+    for (leaf, due) in dues.iter().enumerate() {
+        let place = ITEM * leaf;
+        list[place..place + ITEM].copy_from_slice(&due.numbers());
     }
 }
 
 /// Writes what is due into a lent list and answers how many leaves there are.
 /// Where the list is too short, it stays as it was.
 pub fn due_list(openings: &Openings, table: &Table, list: &mut [u64]) -> Result<usize, ShortList>
-    ensures { (t : Term) → Holds openings.now.read.file table.now.nodes 0 t → table.now.len ≡ nodes t → Listed t list.old list.new result }
+    ensures { (t : Term) → Holds openings.now.read.file table.now.items 0 t → length table.now.items ≡ nodes t → Listed t list.old list.new result }
 {
-    let nodes = in_use(table);
-    let leaves = leaf_count(nodes);
-    if list.len() / ITEM < leaves {
+    let dues = dues_of(openings.file(), table);
+    if list.len() / ITEM < dues.len() {
         return Err(ShortList);
     }
-    write_items(openings.file(), nodes, list);
-    Ok(leaves)
+    write_dues(dues.as_slice(), list);
+    Ok(dues.len())
 }

@@ -13,10 +13,9 @@ use Rattle.contract_file.specs.declared.files.File.{File}
 use Rattle.openings.specs.Clauses.{clause_at}
 use Rattle.terms.specs.declared.nodes.Node.{Node}
 use Rattle.terms.specs.declared.nodes.Node.TheVariants.{Lost, Done, Leaf, Choice, Both, Follow}
-use Rattle.terms.specs.declared.nodes.Table.{Table}
-use Rattle.terms.specs.Tables.{Is, Holds}
+use Rattle.terms.specs.Tables.{Is, Holds, Whole}
 use Rattle.terms.proofs.Writing.{some_nodes}
-use Rattle.held.specs.Whole.{Whole, bind, leaf_by, node_by, term_at, Long, SomeWhole}
+use Rattle.held.specs.Whole.{bind, leaf_by, node_by, term_at, Long, SomeWhole}
 
 -- where there is a term, Q holds of it
 abbrev At : Option Term → (Term → Type 0) → Type 0
@@ -77,16 +76,16 @@ module _ (f : File) (ns : List Node) where
       term_step n at (Follow h.0 row) h.1 ∙ (rw (what_is_held_is_read n t (at + 1) h.3 (omega arith), h.2) refl)
 
 -- what a held contract's type hides can be taken out again
-pub record Found (f : File) (table : Table) : Type 0 where
+pub record Found (f : File) (ns : List Node) : Type 0 where
   pub term : Term
-  pub whole : Whole f table term
+  pub whole : Whole f ns term
 
-found_by : (f : File) (table : Table) (o : Option Term) → At o (Holds f table.nodes 0) → ∥ Long table.len o ∥₁ → Found f table
-found_by f table None h long = absurd (∥∥₁_elim long ⊥_prop (λ x. x))
-found_by f table (Some t) h long = record { term = t; whole = (h, ∥∥₁_elim long (≡_prop coded_ℕ _ _) (λ x. x)) }
+found_by : (f : File) (ns : List Node) (o : Option Term) → At o (Holds f ns 0) → ∥ Long (length ns) o ∥₁ → Found f ns
+found_by f ns None h long = absurd (∥∥₁_elim long ⊥_prop (λ x. x))
+found_by f ns (Some t) h long = record { term = t; whole = (h, ∥∥₁_elim long (≡_prop coded_ℕ _ _) (λ x. x)) }
 
-pub found : (f : File) (table : Table) → ∥ SomeWhole f table ∥₁ → Found f table
-found f table long = found_by f table (term_at f table.nodes 256 0) (what_is_read_is_held f table.nodes 256 0) long
+pub found : (f : File) (ns : List Node) → ∥ SomeWhole f ns ∥₁ → Found f ns
+found f ns long = found_by f ns (term_at f ns 256 0) (what_is_read_is_held f ns 256 0) long
 
-pub some_whole : (f : File) (table : Table) (t : Term) → nodes t ≤ 256 → Whole f table t → ∥ SomeWhole f table ∥₁
-some_whole f table t few whole = ∣ subst (Long table.len) (sym (what_is_held_is_read f table.nodes 256 t 0 whole.0 few)) whole.1 ∣₁
+pub some_whole : (f : File) (ns : List Node) (t : Term) → nodes t ≤ 256 → Whole f ns t → ∥ SomeWhole f ns ∥₁
+some_whole f ns t few whole = ∣ subst (Long (length ns)) (sym (what_is_held_is_read f ns 256 t 0 whole.0 few)) whole.1 ∣₁

@@ -2,7 +2,7 @@
 use Rattle.std.specs.Prelude.{◌≡◌, ◌<◌, ◌≤◌, Ok, Err, Result}
 use Rattle.language.specs.Terms.{Term, nodes}
 use Rattle.held.specs.declared.held.Held.{Held}
-use Rattle.held.specs.declared.holding.TooLarge.{TooLarge}
+use Rattle.terms.specs.declared.too_large.TooLarge.{TooLarge}
 use Rattle.held.specs.Holding.{Holding}
 
 -- A residual of at most 256 nodes is held afterwards, of the same file; a larger one is refused, and nothing is changed.

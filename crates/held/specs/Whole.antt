@@ -1,4 +1,4 @@
--- A table that holds a term, and nothing else. Assumes nothing.
+-- The term that nodes hold, as something to compute. Assumes nothing.
 use Rattle.std.specs.Prelude.{◌≡◌, ℕ, zero, suc, ◌+◌, cond, List, length, Some, None, Option, ◌==◌, nat_lt, slice_index_or}
 use Rattle.kinds.specs.Rows.{Row}
 use Rattle.language.specs.Clauses.{Clause, done, lost, step, choice, both, then, call}
@@ -8,14 +8,8 @@ use Rattle.contract_file.specs.declared.files.File.{File}
 use Rattle.openings.specs.Clauses.{clause_at}
 use Rattle.terms.specs.declared.nodes.Node.{Node}
 use Rattle.terms.specs.declared.nodes.Node.TheVariants.{Lost, Done, Leaf, Choice, Both, Follow}
-use Rattle.terms.specs.declared.nodes.Table.{Table}
-use Rattle.terms.specs.Tables.{Holds}
 
--- Its nodes in use are those of the term, node for node.
-abbrev pub Whole : File → Table → Term → Type 0
-Whole f table t = Holds f table.nodes 0 t × (table.len ≡ nodes t)
-
--- The same as something to compute: the term that the nodes hold from a place on, if they hold one.
+-- The term that nodes hold from a place on, if they hold one.
 abbrev pub bind : Option Term → (Term → Option Term) → Option Term
 bind None more = None
 bind (Some t) more = more t
@@ -51,6 +45,6 @@ abbrev pub Long : ℕ → Option Term → Type 0
 Long len None = ⊥
 Long len (Some t) = len ≡ nodes t
 
--- The table holds some term, and nothing else.
-abbrev pub SomeWhole : File → Table → Type 0
-SomeWhole f table = Long table.len (term_at f table.nodes 256 0)
+-- The nodes hold some term, and nothing else.
+abbrev pub SomeWhole : File → List Node → Type 0
+SomeWhole f ns = Long (length ns) (term_at f ns 256 0)

@@ -15,20 +15,7 @@ use due::{ShortList, due_list};
 use kinds::Kind;
 use outlook::end_day;
 use residuals::hold;
-use terms::{Table, open_contract};
-
-/// Question 17 was answered no: has the residual at most 256 nodes?
-#[derive(Clone, Copy)]
-pub struct TooLarge;
-
-impl TooLarge {
-    /// The number of the question.
-    pub fn number(&self) -> u8
-        ensures { result ≡ 17 }
-    {
-        17
-    }
-}
+use terms::{Table, TooLarge, open_contract};
 
 impl Held {
     /// Opens the contract of a checked file on its signing day, and spends the checked file.
@@ -37,7 +24,8 @@ impl Held {
         ensures holding { Holding result (contract_opened foreseen.openings.read.file foreseen.day) }
     {
         let mut table = Table::new();
-        open_contract(foreseen.openings(), foreseen.day(), &mut table);
+        // A checked contract fits.
+        open_contract(foreseen.openings(), foreseen.day(), &mut table).unwrap();
         Held { foreseen, table }
     }
 
@@ -52,18 +40,14 @@ impl Held {
     pub fn nodes(&self) -> u16
         ensures { (t : Term) → Holding self.now t → result ≡ nodes t }
     {
-        self.table.len
+        self.table.len() as u16
     }
 
     /// Holds a record against the term: it becomes its residual, if that has at most 256 nodes, and stays otherwise.
     pub fn take<K: Kind>(&mut self, kind: &K, r: &K::Record) -> Result<(), TooLarge>
         ensures { (t : Term) → Holding self.old t → Taken self.old self.new (residual K.Kind.meaning (templates_of (file_of self.old)) t r.now) result }
     {
-        if hold(kind, self.foreseen.openings(), r, &mut self.table) {
-            Ok(())
-        } else {
-            Err(TooLarge)
-        }
+        hold(kind, self.foreseen.openings(), r, &mut self.table)
     }
 
     /// Writes what is due into a lent list and answers how many leaves there are; a list that is too short stays as it was.

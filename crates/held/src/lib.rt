@@ -7,4 +7,4 @@ mod holding;
 
 pub use foreseen::Foreseen;
 pub use held::Held;
-pub use holding::TooLarge;
+pub use terms::TooLarge;

@@ -1,12 +1,12 @@
 -- What is seen at a node, from what is seen of its parts.
-use Rattle.std.proofs.Common.{◌≡◌, ℕ, ◌+◌, ◌<◌, false, List, length, get_or, Option, sym, refl, ap, ◌∙◌, subst, ap₂, arith}
+use Rattle.std.proofs.Common.{◌≡◌, ℕ, ◌+◌, ◌<◌, ◌≤◌, false, List, length, get_or, Option, sym, refl, ap, ◌∙◌, subst, ap₂, arith}
 use Rattle.kinds.specs.Rows.{Row}
 use Rattle.language.specs.Terms.{Term, Choice, Both, nodes}
 use Rattle.contract_file.specs.declared.files.File.{File}
 use Rattle.openings.proofs.Unfolding.{Leading}
 use Rattle.terms.specs.declared.nodes.Node.{Node}
 use Rattle.terms.specs.declared.nodes.Node.TheVariants as node
-use Rattle.terms.specs.Tables.{Holds, SomeTerm}
+use Rattle.terms.specs.Tables.{Holds}
 use Rattle.terms.proofs.Viewing.{Sides, view}
 use Rattle.terms.proofs.Writing.{some_nodes, held_within}
 use Rattle.horizon.specs.declared.horizon.Horizon.{Horizon}
@@ -14,26 +14,16 @@ use Rattle.outlook.specs.declared.outlooks.Outlook.{Outlook}
 use Rattle.outlook.specs.Outlooks.{Foretold, outlook_of, lost_outlook, done_outlook, leaf_outlook, choice_outlook, both_outlook, follow_outlook, Seen}
 use Rattle.outlook.proofs.Timely.{leaf_told, follow_told}
 
-module _ (f : File) (ns : List Node) (place : ℕ) where
-  -- a term stands within the nodes
-  pub inside : SomeTerm f ns place → place < length ns
-  inside some = omega (arith, held_within f ns place some.term some.held, some_nodes some.term)
-
-  -- a part of a term is a term
-  pub left_of : (join : Term → Term → Term) → ((t : Term) → Holds f ns place t → Sides f ns place join t) → SomeTerm f ns place → SomeTerm f ns (place + 1)
-  left_of join sides some = (let v = sides some.term some.held in record { term = v.left; held = v.left_held })
-
-  pub under_of : (clause : ℕ) (row : Row) → get_or ns place node.Lost ≡ node.Follow clause row → SomeTerm f ns place → SomeTerm f ns (place + 1)
-  under_of clause row is some = (let v = view f ns place _ is some.term some.held in record { term = v.term; held = v.held })
-
 module _ (f : File) (ns : List Node) (clock place : ℕ) where
-  -- and so is the right side, behind the left one
-  pub right_of : (join : Term → Term → Term) → ((t : Term) → Holds f ns place t → Sides f ns place join t) → SomeTerm f ns place
-      → (o : Outlook) (middle : ℕ) → Seen f ns clock (place + 1) o middle → (place < middle) × SomeTerm f ns middle
-  right_of join sides some o middle seen =
-      let v = sides some.term some.held in
-      let e = seen.ends v.left v.left_held in
-      (omega arith, record { term = v.right; held = subst (λ (i : ℕ). Holds f ns i v.right) (sym e) v.right_held })
+  inside : (t : Term) → Holds f ns place t → place < length ns
+  inside t h = omega (arith, held_within f ns place t h, some_nodes t)
+
+  -- past the end nothing stands
+  pub see_past : (o : Outlook) → length ns ≤ place → Seen f ns clock place o place
+  see_past o past = record {
+    ends = λ t h. (let within = inside t h in absurd (omega arith));
+    tells = λ t h. (let within = inside t h in absurd (omega arith));
+  }
 
   pub see_lost : (o : Outlook) → get_or ns place node.Lost ≡ node.Lost → o ≡ lost_outlook → Seen f ns clock place o (place + 1)
   see_lost o at is = record { ends = λ t h. ap (λ u. place + nodes u) (sym (view f ns place _ at t h)); tells = λ t h. is ∙ sym (ap (λ u. outlook_of f u clock) (view f ns place _ at t h)) }

@@ -1,34 +1,29 @@
 //! Looking ahead over a table of nodes: one look at each node.
-ghost use Rattle.std.specs.Prelude.{◌≡◌, ◌<◌};
+ghost use Rattle.std.specs.Prelude.{◌≡◌, ◌≤◌};
 ghost use Rattle.language.specs.Terms.{Term};
 ghost use Rattle.language.specs.Ends.{durations, end_day};
 ghost use Rattle.contract_file.specs.Sound.{Sound};
 ghost use Rattle.openings.specs.Clauses.{templates_of};
-ghost use Rattle.terms.specs.Tables.{Holds, SomeTerm};
+ghost use Rattle.terms.specs.Tables.{Holds};
 ghost use Rattle.outlook.specs.Outlooks.{Foretold, outlook_of, Seen};
 
 use crate::outlooks::Outlook;
 use contract_file::File;
 use horizon::Horizon;
-use openings::{MOST_NODES, Openings};
+use openings::Openings;
 use terms::{Node, Table};
 
-/// The outlook of the term that begins at a place, and the place behind it.
-fn look(
-    file: &File,
-    horizon: &Horizon,
-    nodes: &[Node; MOST_NODES],
-    clock: u32,
-    at: usize,
-) -> (Outlook, usize)
+/// The outlook of the term that begins at a place, and the place behind it. Past the end nothing stands.
+fn look(file: &File, horizon: &Horizon, nodes: &[Node], clock: u32, at: usize) -> (Outlook, usize)
     requires sound { Sound file.now }
     requires foretold { Foretold file.now horizon.now }
-    requires within { at < 256 }
-    requires tree { SomeTerm file.now nodes.now at }
-    ensures { Seen file.now nodes.now clock at result.0 result.1 }
+    ensures behind { at ≤ result.1 }
+    ensures seen { Seen file.now nodes.now clock at result.0 result.1 }
 {
-    let node = nodes[at];
-    match node {
+    let Some(node) = nodes.get(at) else {
+        return (Outlook::lost(), at);
+    };
+    match *node {
         Node::Lost => (Outlook::lost(), at + 1),
         Node::Done => (Outlook::done(), at + 1),
         Node::Leaf { step, base, .. } => (Outlook::leaf(file, horizon, step, base, clock), at + 1),
@@ -51,18 +46,16 @@ fn look(
 
 /// The outlook of a table's term at a clock: whether it may end as it stands, and when it can end with more records.
 pub fn look_ahead(openings: &Openings, horizon: &Horizon, table: &Table, clock: u32) -> Outlook
-    requires foretold { Foretold openings.now.read.file horizon.now }
-    requires tree { SomeTerm openings.now.read.file table.now.nodes 0 }
-    ensures { (t : Term) → Holds openings.now.read.file table.now.nodes 0 t → result ≡ outlook_of openings.now.read.file t clock }
+    requires { Foretold openings.now.read.file horizon.now }
+    ensures { (t : Term) → Holds openings.now.read.file table.now.items 0 t → result ≡ outlook_of openings.now.read.file t clock }
 {
-    look(openings.file(), horizon, &table.nodes, clock, 0).0
+    look(openings.file(), horizon, table.as_slice(), clock, 0).0
 }
 
 /// The earliest day on which a table's term can end, with no record before the clock.
 pub fn end_day(openings: &Openings, horizon: &Horizon, table: &Table, clock: u32) -> Option<u32>
-    requires foretold { Foretold openings.now.read.file horizon.now }
-    requires tree { SomeTerm openings.now.read.file table.now.nodes 0 }
-    ensures { (t : Term) → Holds openings.now.read.file table.now.nodes 0 t → result ≡ end_day (durations (templates_of openings.now.read.file)) t clock }
+    requires { Foretold openings.now.read.file horizon.now }
+    ensures { (t : Term) → Holds openings.now.read.file table.now.items 0 t → result ≡ end_day (durations (templates_of openings.now.read.file)) t clock }
 {
     look_ahead(openings, horizon, table, clock).end(clock)
 }

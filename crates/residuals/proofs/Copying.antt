@@ -1,38 +1,27 @@
 -- Nodes that are copied hold the term that they held.
-use Rattle.std.proofs.Common.{◌≡◌, ℕ, ◌+◌, ◌-◌, ◌≤◌, List, get_or, sym, ap, ◌∙◌, arith}
-use native.Mathlib.Decide.{dec_le}
+use Rattle.std.proofs.Common.{◌≡◌, ℕ, ◌+◌, ◌-◌, ◌<◌, List, ◌++◌, length, get_or, slice_range, ap, ◌∙◌, arith, length-append, length-take, length-drop, get_or-take, get_or-drop}
+use Rattle.std.proofs.lemmas.List.{get_or-append-add}
 use Rattle.language.specs.Terms.{Term, nodes}
 use Rattle.contract_file.specs.declared.files.File.{File}
 use Rattle.terms.specs.declared.nodes.Node.{Node}
 use Rattle.terms.specs.declared.nodes.Node.TheVariants as node
-use Rattle.terms.specs.declared.nodes.Table.{Table}
-use Rattle.terms.specs.Tables.{pushed, Holds, Writes}
-use Rattle.terms.proofs.Writing.{push, moved}
-use Rattle.residuals.specs.Rests.{Copies}
+use Rattle.terms.specs.Tables.{Holds, Wrote}
+use Rattle.terms.proofs.Writing.{held_within, moved}
 
-module _ (ns : List Node) (from : ℕ) where
-  pub copy_more : (i : ℕ) (a b c : Table) → from ≤ i → Copies ns from i a b → c ≡ pushed b (get_or ns i node.Lost) → Copies ns from (i + 1) a c
-  copy_more i a b c low before e long room =
-      let x = before long (omega arith) in
-      let p = push b c _ e (x.same ∙ long) (omega (arith, x.long)) in
-      record {
-        long = omega (arith, p.long, x.long);
-        is = λ k h. elim (dec_le (i - from) k) [
-          | yes j ↦ (let here : a.len + k ≡ b.len = omega (arith, x.long) in
-              let there : from + k ≡ i = omega arith in
-              ap (λ q. get_or c.nodes q node.Lost) here ∙ p.is.1 ∙ sym (ap (λ q. get_or ns q node.Lost) there))
-          | no j ↦ p.kept (a.len + k) (omega (arith, x.long)) ∙ x.is k (omega arith)
-        ];
-        kept = λ k h. p.kept k (omega (arith, x.long)) ∙ x.kept k h;
-        same = p.same ∙ x.same;
-      }
+-- the nodes of a term, behind others
+module _ (f : File) (ns before after : List Node) (from to : ℕ) (t : Term) (h : Holds f ns from t) (ends : to ≡ from + nodes t) (is : after ≡ before ++ slice_range ns from to) where
+  long : length (slice_range ns from to) ≡ nodes t
+  long = (let room = held_within f ns from t h in simp (length-take, length-drop) (omega arith))
 
-  pub copy_writes : (f : File) (to : ℕ) (a b : Table) (t : Term) → Holds f ns from t → to ≡ from + nodes t → Copies ns from to a b → Writes f a b t
-  copy_writes f to a b t h e copies long room =
-      let x = copies long (omega arith) in
-      record {
-        long = omega (arith, x.long);
-        held = moved f ns b.nodes from a.len t h (λ k less. (omega (arith, x.same), x.is k (omega arith)));
-        kept = x.kept;
-        same = x.same;
-      }
+  same : (k : ℕ) → k < nodes t → get_or after (length before + k) node.Lost ≡ get_or ns (from + k) node.Lost
+  same k less =
+      let inside : k < to - from = omega arith in
+      ap (λ xs. get_or xs (length before + k) node.Lost) is ∙ get_or-append-add before (slice_range ns from to) k node.Lost ∙ rw (get_or-take, get_or-drop)
+
+  pub copied : Wrote f before after t
+  copied = record {
+    behind = slice_range ns from to;
+    is = is;
+    long = long;
+    held = moved f ns after from (length before) t h (λ k less. (omega (arith, ap length is, length-append before (slice_range ns from to), long), same k less));
+  }

@@ -1,6 +1,5 @@
 -- What the marks of a record leave is the residual, and the table takes it over.
-use Rattle.std.proofs.Common.{◌≡◌, ℕ, ◌+◌, ◌<◌, ◌≤◌, min, true, false, List, map, length, get_or, Some, None, Option, sym, refl, ap, ◌∙◌, subst, ap₂, arith}
-use lib.ListN.{length-map}
+use Rattle.std.proofs.Common.{◌≡◌, ℕ, ◌+◌, ◌<◌, ◌≤◌, min, List, [], map, get_or, Some, None, Ok, Err, Option, sym, refl, ap, ◌∙◌, subst, ap₂, arith}
 use Rattle.std.proofs.lemmas.List.{get_or-map}
 use Rattle.kinds.specs.declared.fields.Conditions.{Conditions}
 use Rattle.kinds.specs.Rows.{Row}
@@ -17,17 +16,21 @@ use Rattle.contract_file.proofs.Facts.{known_sound}
 use Rattle.openings.specs.Clauses.{conditions_at, clause_by, clause_at, templates_of}
 use Rattle.openings.proofs.Unfolding.{leading, unfolds}
 use Rattle.terms.specs.declared.nodes.Node.TheVariants as node
-use Rattle.terms.specs.declared.nodes.Table.{Table}
-use Rattle.terms.specs.Tables.{empty, Writes}
+use Rattle.terms.specs.declared.nodes.Node.{Node}
+use Rattle.terms.specs.Tables.{Wrote}
 use Rattle.terms.specs.Results.{Replaced}
-use Rattle.terms.proofs.Writing.{held_within, some_nodes}
 use Rattle.terms.proofs.Joining.{replaced, refused}
 use Rattle.residuals.specs.declared.marked.Marked.{Marked}
 use Rattle.residuals.specs.declared.weights.Weight.{Weight}
+use Rattle.residuals.specs.declared.weighed.Weighed.{Weighed}
 use Rattle.residuals.specs.Marks.{next_from, leaf_mark, mark_of}
-use Rattle.residuals.specs.Marked.{file_of, nodes_of, Stands, Standing, opened_if, left}
-use Rattle.residuals.specs.Weights.{weight_in, Weighed}
+use Rattle.residuals.specs.Marked.{file_of, nodes_of, Stands, opened_if, left}
+use Rattle.residuals.specs.Weights.{Weighs}
 use Rattle.residuals.specs.Rests.{Ready}
+
+-- what was weighed from the first place on can be built
+abbrev pub ready : (v : Weighed) (old : List Weight) (end : ℕ) (w : Weight) → Weighs v.marked 0 end w old v.weights.now → (t : Term) → Stands v.marked 0 t → Ready v 0
+ready v old end w weighs t h = record { term = t; held = h; told = λ k u low high held. weighs.told k u low (omega (arith, weighs.ends t h)) held }
 
 -- a term under the marks of a record
 module _ {R : Type 0} (K : Meaning R) (m : Marked) (r : R) (f : File) (same : f ≡ file_of m) (marks : m.marks.now ≡ map (mark_of K f r) (nodes_of m)) (on : m.day ≡ K.day r) where
@@ -72,27 +75,13 @@ module _ {R : Type 0} (K : Meaning R) (m : Marked) (r : R) (f : File) (same : f 
   left_is i (Both a b) h = ap₂ (λ x y. choice_of (both_of x b) (both_of a y)) (left_is (i + 1) a h.1) (left_is (i + 1 + nodes a) b h.2)
   left_is i (Follow t c row) h = ap₂ (λ x d. then_of x c row (opened (templates_of (file_of m)) c row d)) (left_is (i + 1) t h.3) on
 
-  -- there are as many nodes as marks
-  pub in_table : length m.marks.now ≡ 256 → (t : Term) → Stands m 0 t → 0 + nodes t ≤ 256
-  in_table long t h =
-      let full : length (nodes_of m) ≡ 256 = sym (length-map (nodes_of m) (mark_of K f r)) ∙ sym (ap length marks) ∙ long in
-      omega (arith, held_within (file_of m) (nodes_of m) 0 t h)
+  module _ (weights : List Weight) (old : List Weight) (end : ℕ) (w : Weight) (weighs : Weighs m 0 end w old weights) (t : Term) (h : Stands m 0 t) where
+    sized : w.left.size ≡ min (nodes (residual K (templates_of (file_of m)) t r)) 257
+    sized = ap (λ x. x.left.size) (weighs.root t h) ∙ ap (λ u. min (nodes u) 257) (left_is 0 t h)
 
-  pub standing : length m.marks.now ≡ 256 → (t : Term) → Stands m 0 t → Standing m 0
-  standing long t h = record { term = t; held = h; few = in_table long t h }
+    pub taken : (before start after : List Node) (s : ℕ) → s ≡ w.left.size → s ≤ 256 → start ≡ [] → Wrote (file_of m) start after (left m 0 t)
+        → Replaced (file_of m) (residual K (templates_of (file_of m)) t r) before after (Ok tt)
+    taken before start after s e small is v = replaced (file_of m) _ before start after is (omega (arith, sized)) (subst (Wrote (file_of m) start after) (left_is 0 t h) v)
 
-  module _ (weights old : List Weight) (end : ℕ) (long : length m.marks.now ≡ 256) (w : Weighed m 0 end old weights) (t : Term) (h : Stands m 0 t) where
-    abbrev pub ready : Ready m weights 0
-    ready = record { term = t; held = h; few = in_table long t h; told = λ k u low high held. w.told k u low (omega (arith, w.ends t h)) held }
-
-    sized : (weight_in weights 0).left.size ≡ min (nodes (residual K (templates_of (file_of m)) t r)) 257
-    sized = ap (λ x. x.left.size) (w.told 0 t (omega arith) (omega (arith, w.ends t h, some_nodes t)) h) ∙ ap (λ u. min (nodes u) 257) (left_is 0 t h)
-
-    pub taken : (before start after : Table) (s : ℕ) → s ≡ (weight_in weights 0).left.size → s ≤ 256 → start ≡ empty → Writes (file_of m) start after (left m 0 t)
-        → Replaced (file_of m) (residual K (templates_of (file_of m)) t r) before after true
-    taken before start after s e small is v =
-        replaced (file_of m) _ before after (omega (arith, sized))
-        (subst (λ (a : Table). Writes (file_of m) a after (residual K (templates_of (file_of m)) t r)) is (subst (Writes (file_of m) start after) (left_is 0 t h) v))
-
-    pub kept : (before : Table) (s : ℕ) → s ≡ (weight_in weights 0).left.size → 256 < s → Replaced (file_of m) (residual K (templates_of (file_of m)) t r) before before false
+    pub kept : (before : List Node) (s : ℕ) → s ≡ w.left.size → 256 < s → Replaced (file_of m) (residual K (templates_of (file_of m)) t r) before before (Err (record {}))
     kept before s e large = refused (file_of m) _ before (omega (arith, sized))

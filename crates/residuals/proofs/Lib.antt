@@ -1,5 +1,4 @@
 pub mod Gathering
-pub mod Filling
 pub mod Marking
 pub mod Weighing
 pub mod Copying

@@ -1,5 +1,5 @@
 -- What is written for what is left of a term is what is left of it.
-use Rattle.std.proofs.Common.{◌≡◌, ℕ, ◌+◌, ◌<◌, ◌≤◌, ◌||◌, List, get_or, Some, None, Option, sym, refl, ap, ◌∙◌, subst, ap₂, arith}
+use Rattle.std.proofs.Common.{◌≡◌, ℕ, ◌+◌, ◌<◌, ◌≤◌, min, ◌||◌, List, [], ◌∷◌, ◌++◌, length, get_or, Some, None, Option, sym, refl, ap, ◌∙◌, subst, ap₂, arith}
 use Rattle.kinds.specs.Rows.{Row}
 use Rattle.language.specs.Terms.{Term, Lost, Choice, Both, Follow, nodes, is_lost, is_done, may_end, choice_of, both_of, then_of, opened}
 use Rattle.std.proofs.lemmas.Bool.{cond_both}
@@ -10,14 +10,14 @@ use Rattle.openings.specs.Rounds.{of}
 use Rattle.openings.proofs.Shaping.{both_shape_is}
 use Rattle.terms.specs.declared.nodes.Node.{Node}
 use Rattle.terms.specs.declared.nodes.Node.TheVariants as node
-use Rattle.terms.specs.declared.nodes.Table.{Table}
-use Rattle.terms.specs.Tables.{pushed, Writes}
+use Rattle.terms.specs.Tables.{Wrote}
 use Rattle.terms.proofs.Viewing.{view, Sides, Under, Open}
-use Rattle.terms.proofs.Writing.{some_nodes, retold, write_choice}
+use Rattle.terms.proofs.Writing.{some_nodes, held_within, retold, write_choice}
 use Rattle.terms.proofs.Tidied as tidied
 use Rattle.residuals.specs.declared.marks.Next.{Next}
 use Rattle.residuals.specs.declared.marked.Marked.{Marked}
 use Rattle.residuals.specs.declared.weights.Weight.{Weight}
+use Rattle.residuals.specs.declared.weighed.Weighed.{Weighed}
 use Rattle.residuals.specs.declared.rests.Side.{Side}
 use Rattle.residuals.specs.declared.rests.Side.TheVariants as side
 use Rattle.residuals.specs.declared.rests.Rest.{Rest}
@@ -51,67 +51,88 @@ module _ (l r : Term) where
       (λ h. tidied.both_left l r (lost ∙ e) (done_l ∙ g) (done_r ∙ h))
       (λ h. tidied.both_both l r (lost ∙ e) (done_l ∙ g) (done_r ∙ h))))
 
-module _ (m : Marked) (weights : List Weight) where
+module _ (w : Weighed) where
+  abbrev m : Marked
+  m = w.marked
+
+  abbrev weights : List Weight
+  weights = w.weights.now
+
   -- the weight of what is ready
-  weighs : (at : ℕ) (x : Ready m weights at) → weight_in weights at ≡ weight_of m at x.term
+  weighs : (at : ℕ) (x : Ready w at) → weight_in weights at ≡ weight_of m at x.term
   weighs at x = x.told at x.term (omega arith) (omega (arith, some_nodes x.term)) x.held
 
-  held_shape : (at : ℕ) (x : Ready m weights at) → (weight_in weights at).held ≡ shape_of x.term
+  held_shape : (at : ℕ) (x : Ready w at) → (weight_in weights at).held ≡ shape_of x.term
   held_shape at x = ap (λ w. w.held) (weighs at x)
 
-  left_shape : (at : ℕ) (x : Ready m weights at) → (weight_in weights at).left ≡ shape_of (left_of x)
+  left_shape : (at : ℕ) (x : Ready w at) → (weight_in weights at).left ≡ shape_of (left_of x)
   left_shape at x = ap (λ w. w.left) (weighs at x)
 
-  -- where the next term begins
-  pub ends_at : (at : ℕ) (x : Ready m weights at) → at + (weight_in weights at).held.size ≡ at + nodes x.term
-  ends_at at x = (let s = ap (λ w. w.size) (held_shape at x) in omega (arith, x.few))
+  -- it stands within the nodes, of which there are few
+  within : (at : ℕ) (x : Ready w at) → at + nodes x.term ≤ length (nodes_of m)
+  within at x = held_within (file_of m) (nodes_of m) at x.term x.held
 
-  pub in_table : (at : ℕ) → Ready m weights at → at < 256
-  in_table at x = omega (arith, x.few, some_nodes x.term)
+  pub in_table : (at : ℕ) → Ready w at → at < 256
+  in_table at x = omega (arith, within at x, m.few, some_nodes x.term)
+
+  -- where the next term begins
+  pub ends_at : (at : ℕ) (x : Ready w at) → at + (weight_in weights at).held.size ≡ at + nodes x.term
+  ends_at at x = (let s = ap (λ w. w.size) (held_shape at x) in omega (arith, within at x, m.few))
 
   -- a both of two sides
-  sided : (s : Side) (x : Ready m weights (place s)) → side_shape weights s ≡ shape_of (side_term s x)
+  sided : (s : Side) (x : Ready w (place s)) → side_shape weights s ≡ shape_of (side_term s x)
   sided (side.Taken p) x = left_shape p x
   sided (side.Kept p) x = held_shape p x
 
-  pub halved : (l r : Side) (x : Ready m weights (place l)) (y : Ready m weights (place r)) (a b : Shape) (h : Half) → h ≡ half_by a b
+  -- how many nodes are written
+  pub left_size : (at : ℕ) (x : Ready w at) → (weight_in weights at).left.size ≡ min (nodes (left_of x)) 257
+  left_size at x = ap (λ s. s.size) (left_shape at x)
+
+  pub side_size : (s : Side) (x : Ready w (place s)) → (side_shape weights s).size ≡ min (nodes (side_term s x)) 257
+  side_size s x = ap (λ s. s.size) (sided s x)
+
+  pub both_size : (l r : Side) (x : Ready w (place l)) (y : Ready w (place r))
+      → (both_shape (side_shape weights l) (side_shape weights r)).size ≡ min (nodes (both_of (side_term l x) (side_term r y))) 257
+  both_size l r x y = ap (λ s. s.size) (ap₂ both_shape (sided l x) (sided r y) ∙ sym (both_shape_is (side_term l x) (side_term r y)))
+
+  pub halved : (l r : Side) (x : Ready w (place l)) (y : Ready w (place r)) (a b : Shape) (h : Half) → h ≡ half_by a b
       → a ≡ side_shape weights l → b ≡ side_shape weights r → Halved (side_term l x) (side_term r y) h
   halved l r x y a b h e p q = subst (Halved (side_term l x) (side_term r y)) (sym e) (halved_by _ _ a b (p ∙ sided l x) (q ∙ sided r y))
 
   -- a side that stays as it stands
   pub record Whole (p : ℕ) (t : Term) : Type 0 where
     pub held : Stands m p t
-    pub few : p + nodes t ≤ 256
+    pub few : p + nodes t ≤ length (nodes_of m)
     pub ends : p + (weight_in weights p).held.size ≡ p + nodes t
 
-  pub whole : (s : Side) (p : ℕ) → s ≡ side.Kept p → (x : Ready m weights (place s)) → Whole p (side_term s x)
+  pub whole : (s : Side) (p : ℕ) → s ≡ side.Kept p → (x : Ready w (place s)) → Whole p (side_term s x)
   whole (side.Taken q) p e x = (let z : ◌≡◌ {A = ℕ} 0 1 = cc in absurd (omega arith))
   whole (side.Kept q) p e x =
       let same : q ≡ p = cc in
-      subst (λ (i : ℕ). Whole i x.term) same (record { held = x.held; few = x.few; ends = ends_at q x })
+      subst (λ (i : ℕ). Whole i x.term) same (record { held = x.held; few = within q x; ends = ends_at q x })
 
   -- what is written
-  module _ (at : ℕ) (x : Ready m weights at) where
+  module _ (at : ℕ) (x : Ready w at) where
     pub record Parts (l r : ℕ) : Type 0 where
-      pub left : Ready m weights l
-      pub right : Ready m weights r
+      pub left : Ready w l
+      pub right : Ready w r
       pub low : at < l
       pub between : l < r
 
     pub record Part (p : ℕ) : Type 0 where
-      pub part : Ready m weights p
+      pub part : Ready w p
       pub low : at < p
       pub is : left_of x ≡ left_of part
 
-    pub record Choosing (l r : ℕ) (by : (y : Ready m weights l) (z : Ready m weights r) → Term) : Type 0 where
+    pub record Choosing (l r : ℕ) (by : (y : Ready w l) (z : Ready w r) → Term) : Type 0 where
       pub parts : Parts l r
       pub is : left_of x ≡ by parts.left parts.right
 
-    pub record Following (by : Ready m weights (at + 1) → Term) : Type 0 where
-      pub part : Ready m weights (at + 1)
+    pub record Following (by : Ready w (at + 1) → Term) : Type 0 where
+      pub part : Ready w (at + 1)
       pub is : left_of x ≡ by part
 
-    abbrev follows : Next → Ready m weights (at + 1) → Term
+    abbrev follows : Next → Ready w (at + 1) → Term
     follows next y = Follow (left_of y) (clause_at (file_of m) next.clause) next.row
 
     abbrev pub Rested : Rest → Type 0
@@ -129,18 +150,17 @@ module _ (m : Marked) (weights : List Weight) where
       spans : nodes x.term ≡ 1 + (nodes v.left + nodes v.right)
       spans = ap nodes v.is ∙ size v.left v.right
 
-      left_ready : Ready m weights (at + 1)
-      left_ready = record { term = v.left; held = v.left_held; few = omega (arith, x.few, spans); told = λ k u low high h. x.told k u (omega arith) (omega (arith, spans)) h }
+      left_ready : Ready w (at + 1)
+      left_ready = record { term = v.left; held = v.left_held; told = λ k u low high h. x.told k u (omega arith) (omega (arith, spans)) h }
 
       second : second_at weights at ≡ at + 1 + nodes v.left
       unfolding left_ready
       second = ends_at (at + 1) left_ready
 
-      right_ready : Ready m weights (second_at weights at)
+      right_ready : Ready w (second_at weights at)
       right_ready = record {
         term = v.right;
         held = subst (λ (i : ℕ). Stands m i v.right) (sym second) v.right_held;
-        few = omega (arith, x.few, spans, second);
         told = λ k u low high h. x.told k u (omega (arith, second)) (omega (arith, spans, second)) h;
       }
 
@@ -198,7 +218,7 @@ module _ (m : Marked) (weights : List Weight) where
     abbrev again : ℕ → Row → Term
     again s row = opened (templates_of (file_of m)) (clause_at (file_of m) s) row m.day
 
-    then_rested : (s : ℕ) (row : Row) (y : Ready m weights (at + 1)) (l : Shape) → l ≡ shape_of (left_of y) → left_of x ≡ then_of (left_of y) (clause_at (file_of m) s) row (again s row)
+    then_rested : (s : ℕ) (row : Row) (y : Ready w (at + 1)) (l : Shape) → l ≡ shape_of (left_of y) → left_of x ≡ then_of (left_of y) (clause_at (file_of m) s) row (again s row)
         → Rested (follow_rest m l (record { clause = s; row = row }))
     then_rested s row y l w is =
         let ends : may_end (left_of y) ≡ l.ends = sym (ap (λ z. z.ends) w) in
@@ -217,7 +237,7 @@ module _ (m : Marked) (weights : List Weight) where
     follow_rested : (s : ℕ) (row : Row) → Under (file_of m) (nodes_of m) at s row x.term → Rested (follow_rest m (weight_in weights (at + 1)).left (record { clause = s; row = row }))
     unfolding left
     follow_rested s row v =
-        let y : Ready m weights (at + 1) = record { term = v.term; held = v.held; few = omega (arith, x.few, ap nodes v.is); told = λ k u low high h. x.told k u (omega arith) (omega (arith, ap nodes v.is)) h } in
+        let y : Ready w (at + 1) = record { term = v.term; held = v.held; told = λ k u low high h. x.told k u (omega arith) (omega (arith, ap nodes v.is)) h } in
         then_rested s row y _ (left_shape (at + 1) y)
         (ap (left m at) v.is ∙ sym (ap (λ c. then_of (left_of y) c row (opened (templates_of (file_of m)) c row m.day)) v.clause_is))
 
@@ -234,7 +254,7 @@ module _ (m : Marked) (weights : List Weight) where
     rests r e = subst Rested (sym e) (rested_by (get_or (nodes_of m) at node.Lost) refl)
 
     -- the record gone to either side
-    pub either_written : (l r : ℕ) (a b c d : Table) → Rested (rest.Either l r) → b ≡ pushed a node.Choice
-        → BuildsBoth m weights (side.Taken l) (side.Kept r) b c → BuildsBoth m weights (side.Kept l) (side.Taken r) c d → Writes (file_of m) a d (left_of x)
+    pub either_written : (l r : ℕ) (a b c d : List Node) → Rested (rest.Either l r) → b ≡ a ++ node.Choice ∷ []
+        → BuildsBoth w (side.Taken l) (side.Kept r) b c → BuildsBoth w (side.Kept l) (side.Taken r) c d → Wrote (file_of m) a d (left_of x)
     either_written l r a b c d p e first second =
         retold _ _ _ _ _ p.is (write_choice _ _ _ _ _ _ _ e (first p.parts.left p.parts.right) (second p.parts.left p.parts.right))

@@ -13,12 +13,12 @@ use Rattle.openings.proofs.Facts.{known_openings}
 use Rattle.openings.proofs.Shaping.{choice_node_is, both_node_is, follow_node_is, choice_shape_is, both_shape_is, then_shape_is}
 use Rattle.terms.specs.declared.nodes.Node.TheVariants as node
 use Rattle.terms.proofs.Viewing.{view, Sides}
-use Rattle.terms.proofs.Writing.{some_nodes}
+use Rattle.terms.proofs.Writing.{some_nodes, held_within}
 use Rattle.residuals.specs.declared.marks.Next.{Next}
 use Rattle.residuals.specs.declared.marked.Marked.{Marked}
 use Rattle.residuals.specs.declared.weights.Weight.{Weight}
-use Rattle.residuals.specs.Marked.{file_of, nodes_of, Stands, Standing, mark_at, opened_if, shape_if, left}
-use Rattle.residuals.specs.Weights.{weight_of, lost_weight, done_weight, leaf_weight, choice_weight, both_weight, follow_weight, weight_in, Weighed}
+use Rattle.residuals.specs.Marked.{file_of, nodes_of, Stands, mark_at, opened_if, shape_if, left}
+use Rattle.residuals.specs.Weights.{weight_of, lost_weight, done_weight, leaf_weight, choice_weight, both_weight, follow_weight, weight_in, Weighs}
 
 weigh_by : (a b c d : Shape) → a ≡ b → c ≡ d → ◌≡◌ {A = Weight} (record { held = a; left = c }) (record { held = b; left = d })
 weigh_by a b c d p q = ap₂ (λ x y. record { held = x; left = y }) p q
@@ -67,44 +67,17 @@ module _ (m : Marked) where
         weigh_by _ _ _ _ (sym (follow_node_is t c row))
         (ap (then_shape (shape_of t')) (opens e row m.day ∙ ap (λ x. shape_of (opened (templates_of (file_of m)) x row m.day)) is) ∙ sym (then_shape_is t' c row o))
 
-    -- the parts of a term that stands within the table
-    pub record Onward (p : ℕ) : Type 0 where
-      pub further : at < p
-      pub within : p < 256
-      pub standing : Standing m p
+    stands_within : (t : Term) → Stands m at t → at < length (nodes_of m)
+    stands_within t h = omega (arith, held_within (file_of m) (nodes_of m) at t h, some_nodes t)
 
-    onward : (p : ℕ) (t : Term) → at < p → p + nodes t ≤ 256 → Stands m p t → Onward p
-    onward p t further few held = record { further = further; within = omega (arith, some_nodes t); standing = record { term = t; held = held; few = few } }
-
-    module _ (x : Standing m at) where
-      module _ (join : Term → Term → Term) (size : (l r : Term) → nodes (join l r) ≡ 1 + (nodes l + nodes r)) (v : Sides (file_of m) (nodes_of m) at join x.term) where
-        to_left : Onward (at + 1)
-        to_left = onward (at + 1) v.left (omega arith) (omega (arith, x.few, ap nodes v.is, size v.left v.right)) v.left_held
-
-        to_right : (mid : ℕ) → mid ≡ at + 1 + nodes v.left → Onward mid
-        to_right mid e =
-            onward mid v.right (omega arith) (omega (arith, x.few, ap nodes v.is, size v.left v.right)) (subst (λ (i : ℕ). Stands m i v.right) (sym e) v.right_held)
-
-      pub choice_left : get_or (nodes_of m) at node.Lost ≡ node.Choice → Onward (at + 1)
-      choice_left e = to_left Choice (λ l r. refl) (view (file_of m) (nodes_of m) at _ e x.term x.held)
-
-      pub both_left : get_or (nodes_of m) at node.Lost ≡ node.Both → Onward (at + 1)
-      both_left e = to_left Both (λ l r. refl) (view (file_of m) (nodes_of m) at _ e x.term x.held)
-
-      pub choice_right : (old new : List Weight) (mid : ℕ) → get_or (nodes_of m) at node.Lost ≡ node.Choice → Weighed m (at + 1) mid old new → Onward mid
-      choice_right old new mid e w =
-          let v = view (file_of m) (nodes_of m) at _ e x.term x.held in
-          to_right Choice (λ l r. refl) v mid (w.ends v.left v.left_held)
-
-      pub both_right : (old new : List Weight) (mid : ℕ) → get_or (nodes_of m) at node.Lost ≡ node.Both → Weighed m (at + 1) mid old new → Onward mid
-      both_right old new mid e w =
-          let v = view (file_of m) (nodes_of m) at _ e x.term x.held in
-          to_right Both (λ l r. refl) v mid (w.ends v.left v.left_held)
-
-      pub under_follow : (s : ℕ) (row : Row) → get_or (nodes_of m) at node.Lost ≡ node.Follow s row → Onward (at + 1)
-      under_follow s row e =
-          let v = view (file_of m) (nodes_of m) at _ e x.term x.held in
-          onward (at + 1) v.term (omega arith) (omega (arith, x.few, ap nodes v.is)) v.held
+    -- past the end nothing stands
+    pub weigh_past : (w : Weight) (old : List Weight) → length (nodes_of m) ≤ at → Weighs m at at w old old
+    weigh_past w old past = record {
+      ends = λ t h. (let inside = stands_within t h in absurd (omega arith));
+      root = λ t h. (let inside = stands_within t h in absurd (omega arith));
+      kept = λ k low. refl;
+      told = λ k u low high h. absurd (omega arith);
+    }
 
     -- a root's weight, written where its parts are weighed
     rooted : (end : ℕ) (old new : List Weight) (w : Weight) → at < length new
@@ -112,9 +85,10 @@ module _ (m : Marked) where
         → ((k : ℕ) → k < at → weight_in new k ≡ weight_in old k)
         → ((t : Term) → Stands m at t → w ≡ weight_of m at t)
         → ((k : ℕ) (u : Term) → at < k → k < end → Stands m k u → weight_in new k ≡ weight_of m k u)
-        → Weighed m at end old (set new at w)
+        → Weighs m at end w old (set new at w)
     rooted end old new w room ends kept root parts = record {
       ends = ends;
+      root = root;
       kept = λ k low. (let other = elsewhere k (omega arith) in other ∙ kept k low);
       told = λ k u low high h. elim (dec_le k at) [
         | yes i ↦ (let e : k ≡ at = omega arith in
@@ -129,42 +103,38 @@ module _ (m : Marked) where
 
     -- a term of one node
     module _ (old : List Weight) (w : Weight) (room : at < length old) where
-      alone : ((t : Term) → Stands m at t → nodes t ≡ 1) → ((t : Term) → Stands m at t → w ≡ weight_of m at t) → Weighed m at (at + 1) old (set old at w)
+      alone : ((t : Term) → Stands m at t → nodes t ≡ 1) → ((t : Term) → Stands m at t → w ≡ weight_of m at t) → Weighs m at (at + 1) w old (set old at w)
       alone size root = rooted (at + 1) old old w room (λ t h. omega (arith, size t h)) (λ k low. refl) root (λ k u low high h. absurd (omega arith))
 
-      pub weigh_lost : get_or (nodes_of m) at node.Lost ≡ node.Lost → w ≡ lost_weight → Weighed m at (at + 1) old (set old at w)
+      pub weigh_lost : get_or (nodes_of m) at node.Lost ≡ node.Lost → w ≡ lost_weight → Weighs m at (at + 1) w old (set old at w)
       weigh_lost e is =
           let seen = view (file_of m) (nodes_of m) at _ e in
           alone (λ t h. ap nodes (seen t h)) (λ t h. is ∙ lost_weighs ∙ sym (ap (weight_of m at) (seen t h)))
 
-      pub weigh_done : get_or (nodes_of m) at node.Lost ≡ node.Done → w ≡ done_weight → Weighed m at (at + 1) old (set old at w)
+      pub weigh_done : get_or (nodes_of m) at node.Lost ≡ node.Done → w ≡ done_weight → Weighs m at (at + 1) w old (set old at w)
       weigh_done e is =
           let seen = view (file_of m) (nodes_of m) at _ e in
           alone (λ t h. ap nodes (seen t h)) (λ t h. is ∙ done_weighs ∙ sym (ap (weight_of m at) (seen t h)))
 
-      pub weigh_leaf : (s base : ℕ) (row : Row) → get_or (nodes_of m) at node.Lost ≡ node.Leaf s row base → w ≡ leaf_weight (shape_if m (mark_at m at)) → Weighed m at (at + 1) old (set old at w)
+      pub weigh_leaf : (s base : ℕ) (row : Row) → get_or (nodes_of m) at node.Lost ≡ node.Leaf s row base → w ≡ leaf_weight (shape_if m (mark_at m at)) → Weighs m at (at + 1) w old (set old at w)
       weigh_leaf s base row e is =
           let seen = view (file_of m) (nodes_of m) at _ e in
           alone (λ t h. ap nodes (seen t h).is) (λ t h. (let v = seen t h in is ∙ leaf_weighs s v.when v.asks v.tail row base ∙ sym (ap (weight_of m at) v.is)))
 
     -- a term of two sides
-    module _ (old half new : List Weight) (w : Weight) (mid end : ℕ) (a : Weighed m (at + 1) mid old half) (b : Weighed m mid end half new) (room : at < length new) where
+    module _ (old half new : List Weight) (l r w : Weight) (mid end : ℕ) (a : Weighs m (at + 1) mid l old half) (b : Weighs m mid end r half new) (low : at + 1 ≤ mid) (room : at < length new) where
       joined : (join : Term → Term → Term) (by : Weight → Weight → Weight) → ((l r : Term) → nodes (join l r) ≡ 1 + (nodes l + nodes r))
           → ((l r : Term) → by (weight_of m (at + 1) l) (weight_of m (at + 1 + nodes l) r) ≡ weight_of m at (join l r))
-          → ((t : Term) → Stands m at t → Sides (file_of m) (nodes_of m) at join t) → Standing m at
-          → w ≡ by (weight_in new (at + 1)) (weight_in new mid) → Weighed m at end old (set new at w)
-      joined join by size weighs sides some is =
+          → ((t : Term) → Stands m at t → Sides (file_of m) (nodes_of m) at join t) → w ≡ by l r → Weighs m at end w old (set new at w)
+      joined join by size weighs sides is =
           rooted end old new w room
           (λ t h. (let v = sides t h in omega (arith, ap nodes v.is, size v.left v.right, a.ends v.left v.left_held, b.ends v.right (right_stands v))))
-          (λ k low. b.kept k (omega (arith, above)) ∙ a.kept k (omega arith))
+          (λ k below. b.kept k (omega arith) ∙ a.kept k (omega arith))
           (λ t h.
           let v = sides t h in
-          let e = a.ends v.left v.left_held in
-          let x : weight_in new (at + 1) ≡ weight_of m (at + 1) v.left = b.kept (at + 1) above ∙ a.told (at + 1) v.left (omega arith) above v.left_held in
-          let y : weight_in new mid ≡ weight_of m (at + 1 + nodes v.left) v.right =
-          b.told mid v.right (omega arith) (omega (arith, b.ends v.right (right_stands v), some_nodes v.right)) (right_stands v) ∙ ap (λ i. weight_of m i v.right) e in
-          is ∙ ap₂ by x y ∙ weighs v.left v.right ∙ sym (ap (weight_of m at) v.is))
-          (λ k u low high h. elim (dec_le mid k) [
+          let y : r ≡ weight_of m (at + 1 + nodes v.left) v.right = b.root v.right (right_stands v) ∙ ap (λ i. weight_of m i v.right) (a.ends v.left v.left_held) in
+          is ∙ ap₂ by (a.root v.left v.left_held) y ∙ weighs v.left v.right ∙ sym (ap (weight_of m at) v.is))
+          (λ k u above high h. elim (dec_le mid k) [
             | yes j ↦ b.told k u j high h
             | no j ↦ b.kept k (omega arith) ∙ a.told k u (omega arith) (omega arith) h
           ])
@@ -172,19 +142,16 @@ module _ (m : Marked) where
           right_stands : {t : Term} (v : Sides (file_of m) (nodes_of m) at join t) → Stands m mid v.right
           right_stands v = subst (λ (i : ℕ). Stands m i v.right) (sym (a.ends v.left v.left_held)) v.right_held
 
-          above : at + 1 < mid
-          above = (let v = sides some.term some.held in omega (arith, a.ends v.left v.left_held, some_nodes v.left))
+      pub weigh_choice : get_or (nodes_of m) at node.Lost ≡ node.Choice → w ≡ choice_weight l r → Weighs m at end w old (set new at w)
+      weigh_choice e is = joined Choice choice_weight (λ l r. refl) choice_weighs (view (file_of m) (nodes_of m) at _ e) is
 
-      pub weigh_choice : get_or (nodes_of m) at node.Lost ≡ node.Choice → Standing m at → w ≡ choice_weight (weight_in new (at + 1)) (weight_in new mid) → Weighed m at end old (set new at w)
-      weigh_choice e some is = joined Choice choice_weight (λ l r. refl) choice_weighs (view (file_of m) (nodes_of m) at _ e) some is
-
-      pub weigh_both : get_or (nodes_of m) at node.Lost ≡ node.Both → Standing m at → w ≡ both_weight (weight_in new (at + 1)) (weight_in new mid) → Weighed m at end old (set new at w)
-      weigh_both e some is = joined Both both_weight (λ l r. refl) both_weighs (view (file_of m) (nodes_of m) at _ e) some is
+      pub weigh_both : get_or (nodes_of m) at node.Lost ≡ node.Both → w ≡ both_weight l r → Weighs m at end w old (set new at w)
+      weigh_both e is = joined Both both_weight (λ l r. refl) both_weighs (view (file_of m) (nodes_of m) at _ e) is
 
     -- a term under a follow
-    module _ (old new : List Weight) (w : Weight) (end : ℕ) (a : Weighed m (at + 1) end old new) (room : at < length new) where
+    module _ (old new : List Weight) (part w : Weight) (end : ℕ) (a : Weighs m (at + 1) end part old new) (room : at < length new) where
       pub weigh_follow : (s : ℕ) (row : Row) → get_or (nodes_of m) at node.Lost ≡ node.Follow s row
-          → w ≡ follow_weight (weight_in new (at + 1)) (of m.openings.now.shapes s) → Weighed m at end old (set new at w)
+          → w ≡ follow_weight part (of m.openings.now.shapes s) → Weighs m at end w old (set new at w)
       weigh_follow s row e is =
           let seen = view (file_of m) (nodes_of m) at _ e in
           rooted end old new w room
@@ -192,7 +159,6 @@ module _ (m : Marked) where
           (λ k low. a.kept k (omega arith))
           (λ t h.
           let v = seen t h in
-          let above : at + 1 < end = omega (arith, a.ends v.term v.held, some_nodes v.term) in
-          is ∙ ap (λ x. follow_weight x (of m.openings.now.shapes s)) (a.told (at + 1) v.term (omega arith) above v.held)
+          is ∙ ap (λ x. follow_weight x (of m.openings.now.shapes s)) (a.root v.term v.held)
           ∙ follow_weighs v.term s v.clause row v.clause_is ∙ sym (ap (weight_of m at) v.is))
           (λ k u low high h. a.told k u (omega arith) high h)

@@ -1,5 +1,5 @@
 -- What a record's marks leave of a term that stands in a table. Assumes nothing.
-use Rattle.std.specs.Prelude.{ℕ, ◌+◌, ◌≤◌, List, Some, None, Option, slice_index_or}
+use Rattle.std.specs.Prelude.{ℕ, ◌+◌, List, Some, None, Option, slice_index_or}
 use Rattle.language.specs.Terms.{Term, Done, Lost, Leaf, Choice, Both, Follow, nodes, choice_of, both_of, then_of, opened}
 use Rattle.contract_file.specs.declared.files.File.{File}
 use Rattle.openings.specs.declared.shapes.Shape.{Shape}
@@ -20,12 +20,6 @@ nodes_of m = m.nodes.now
 -- A term stands in the table, from a place on.
 abbrev pub Stands : Marked → ℕ → Term → Type 0
 Stands m at t = Holds (file_of m) (nodes_of m) at t
-
--- Some term stands there, within the table.
-pub record Standing (m : Marked) (at : ℕ) : Type 0 where
-  pub term : Term
-  pub held : Stands m at term
-  pub few : at + nodes term ≤ 256
 
 abbrev pub mark_at : Marked → ℕ → Option Next
 mark_at m at = slice_index_or m.marks.now at None

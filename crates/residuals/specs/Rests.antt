@@ -1,16 +1,16 @@
 -- What is written for what a record leaves of a term, by the weights of its parts. Assumes nothing.
-use Rattle.std.specs.Prelude.{◌≡◌, ℕ, ◌+◌, ◌-◌, ◌<◌, ◌≤◌, cond, ◌||◌, List, length, Some, None, Option, slice_index_or}
+use Rattle.std.specs.Prelude.{◌≡◌, ℕ, ◌+◌, ◌<◌, ◌≤◌, cond, ◌||◌, List, length, Some, None, Option}
 use Rattle.language.specs.Terms.{Term, nodes, both_of}
 use Rattle.openings.specs.declared.shapes.Shape.{Shape}
 use Rattle.openings.specs.Shapes.{both_shape}
 use Rattle.openings.specs.Rounds.{of}
 use Rattle.terms.specs.declared.nodes.Node.{Node}
 use Rattle.terms.specs.declared.nodes.Node.TheVariants as node
-use Rattle.terms.specs.declared.nodes.Table.{Table}
-use Rattle.terms.specs.Tables.{Writes}
+use Rattle.terms.specs.Tables.{Wrote}
 use Rattle.residuals.specs.declared.marks.Next.{Next}
 use Rattle.residuals.specs.declared.marked.Marked.{Marked}
 use Rattle.residuals.specs.declared.weights.Weight.{Weight}
+use Rattle.residuals.specs.declared.weighed.Weighed.{Weighed}
 use Rattle.residuals.specs.declared.rests.Side.{Side}
 use Rattle.residuals.specs.declared.rests.Side.TheVariants as side
 use Rattle.residuals.specs.declared.rests.Rest.{Rest}
@@ -21,22 +21,21 @@ use Rattle.residuals.specs.Marked.{file_of, Stands, mark_at, left}
 use Rattle.residuals.specs.Weights.{weight_of, weight_in}
 
 -- A term stands at a place, and the weights tell each of its parts.
-pub record Ready (m : Marked) (weights : List Weight) (at : ℕ) : Type 0 where
+pub record Ready (w : Weighed) (at : ℕ) : Type 0 where
   pub term : Term
-  pub held : Stands m at term
-  pub few : at + nodes term ≤ 256
-  pub told : (k : ℕ) (u : Term) → at ≤ k → k < at + nodes term → Stands m k u → weight_in weights k ≡ weight_of m k u
+  pub held : Stands w.marked at term
+  pub told : (k : ℕ) (u : Term) → at ≤ k → k < at + nodes term → Stands w.marked k u → weight_in w.weights.now k ≡ weight_of w.marked k u
 
 -- What is left of it.
-abbrev pub left_of : {m : Marked} {weights : List Weight} {at : ℕ} → Ready m weights at → Term
-left_of {m} {weights} {at} x = left m at x.term
+abbrev pub left_of : {w : Weighed} {at : ℕ} → Ready w at → Term
+left_of {w} {at} x = left w.marked at x.term
 
 -- The place of a side, its term, and what it comes to.
 abbrev pub place : Side → ℕ
 place (side.Taken p) = p
 place (side.Kept p) = p
 
-abbrev pub side_term : {m : Marked} {weights : List Weight} (s : Side) → Ready m weights (place s) → Term
+abbrev pub side_term : {w : Weighed} (s : Side) → Ready w (place s) → Term
 side_term (side.Taken p) x = left_of x
 side_term (side.Kept p) x = x.term
 
@@ -79,22 +78,16 @@ rest_by m ws at node.Both = both_rest ws (at + 1) (second_at ws at)
 rest_by m ws at (node.Follow e row) = follow_rest m (weight_in ws (at + 1)).left (record { clause = e; row = row })
 
 -- What is left of the term at a place is written, a side of a both is, and a both of two sides.
-abbrev pub Builds : Marked → List Weight → ℕ → Table → Table → Type 0
-Builds m ws at before after = (x : Ready m ws at) → Writes (file_of m) before after (left_of x)
+abbrev pub Builds : Weighed → ℕ → List Node → List Node → Type 0
+Builds w at before after = (x : Ready w at) → Wrote (file_of w.marked) before after (left_of x)
 
-abbrev pub BuildsSide : Marked → List Weight → Side → Table → Table → Type 0
-BuildsSide m ws s before after = (x : Ready m ws (place s)) → Writes (file_of m) before after (side_term s x)
+abbrev pub BuildsSide : Weighed → Side → List Node → List Node → Type 0
+BuildsSide w s before after = (x : Ready w (place s)) → Wrote (file_of w.marked) before after (side_term s x)
 
-abbrev pub BuildsBoth : Marked → List Weight → Side → Side → Table → Table → Type 0
-BuildsBoth m ws l r before after =
-    (x : Ready m ws (place l)) (y : Ready m ws (place r)) → Writes (file_of m) before after (both_of (side_term l x) (side_term r y))
+abbrev pub BuildsBoth : Weighed → Side → Side → List Node → List Node → Type 0
+BuildsBoth w l r before after =
+    (x : Ready w (place l)) (y : Ready w (place r)) → Wrote (file_of w.marked) before after (both_of (side_term l x) (side_term r y))
 
--- The nodes of the places from `from` up to `to` stand behind what the table had, if there is room.
-pub record Copied (ns : List Node) (from to : ℕ) (before after : Table) : Type 0 where
-  pub long : after.len ≡ before.len + (to - from)
-  pub is : (k : ℕ) → k < to - from → slice_index_or after.nodes (before.len + k) node.Lost ≡ slice_index_or ns (from + k) node.Lost
-  pub kept : (k : ℕ) → k < before.len → slice_index_or after.nodes k node.Lost ≡ slice_index_or before.nodes k node.Lost
-  pub same : length after.nodes ≡ length before.nodes
-
-abbrev pub Copies : List Node → ℕ → ℕ → Table → Table → Type 0
-Copies ns from to before after = length before.nodes ≡ 256 → before.len + (to - from) ≤ 256 → Copied ns from to before after
+-- Behind some nodes there is room for something that comes to this.
+abbrev pub HasRoom : List Node → Shape → Type 0
+HasRoom ns s = length ns + s.size ≤ 256

@@ -33,8 +33,10 @@ follow_weight t o = record { held = follow_node t.held; left = then_shape t.left
 abbrev pub weight_in : List Weight → ℕ → Weight
 weight_in weights k = slice_index_or weights k lost_weight
 
--- From a place up to an end the table tells the weight of each term that stands there; below it is as it was.
-pub record Weighed (m : Marked) (at end : ℕ) (old new : List Weight) : Type 0 where
+-- From a place up to an end the table tells the weight of each term that stands there, and below the place it is as it was; of a
+-- term that stands at the place itself this is the weight, and this the end.
+pub record Weighs (m : Marked) (at end : ℕ) (w : Weight) (old new : List Weight) : Type 0 where
   pub ends : (t : Term) → Stands m at t → end ≡ at + nodes t
+  pub root : (t : Term) → Stands m at t → w ≡ weight_of m at t
   pub kept : (k : ℕ) → k < at → weight_in new k ≡ weight_in old k
   pub told : (k : ℕ) (u : Term) → at ≤ k → k < end → Stands m k u → weight_in new k ≡ weight_of m k u

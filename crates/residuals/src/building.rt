@@ -1,45 +1,37 @@
 //! Writing what a record leaves of a term: tidied, in preorder.
-ghost use Rattle.std.specs.Prelude.{◌<◌, ◌≤◌};
-ghost use Rattle.residuals.specs.Rests.{Ready, place, Builds, BuildsSide, BuildsBoth, Copies};
+ghost use Rattle.std.specs.Prelude.{◌<◌};
+ghost use Rattle.openings.specs.Shapes.{both_shape};
+ghost use Rattle.residuals.specs.Weights.{weight_in};
+ghost use Rattle.residuals.specs.Rests.{Ready, HasRoom, place, side_shape, Builds, BuildsSide, BuildsBoth};
 
 use crate::marked::Marked;
-use crate::rests::{Half, Rest, Side, half_of, side_shape};
-use crate::weights::{Weight, weight_at};
-use openings::MOST_NODES;
+use crate::rests::{Half, Rest, Side, half_of};
+use crate::weighed::Weighed;
 use terms::{Node, Table, open_clause};
 
-/// Writes the nodes of some places as they are.
-fn copy(nodes: &[Node; MOST_NODES], from: usize, to: usize, out: &mut Table)
-    requires { (from ≤ to) × (to ≤ 256) }
-    ensures { Copies nodes.now from to out.old out.new }
-{
-    for at in from..to {
-        out.push(nodes[at]);
-    }
-}
-
-impl Marked<'_> {
+impl Weighed<'_> {
     /// Writes what is left of the term at a place.
     #[cycle(build_build_both_build_side)]
-    pub(crate) fn build(&self, weights: &[Weight; MOST_NODES], at: usize, out: &mut Table)
-        requires within { at < 256 }
-        requires ready { Ready self.now weights.now at }
-        ensures { Builds self.now weights.now at out.old out.new }
+    pub(crate) fn build(&self, at: usize, out: &mut Table)
+        requires ready { Ready self.now at }
+        requires room { HasRoom out.old.items (weight_in self.now.weights.now at).left }
+        ensures { Builds self.now at out.old.items out.new.items }
     {
-        match self.rest_at(weights, at) {
+        let Marked { openings, day, .. } = self.marked;
+        match self.rest_at(at) {
             Rest::Lost => out.push(Node::Lost),
-            Rest::Open(next) => open_clause(self.openings, next.clause, &next.row, self.day, out),
-            Rest::Only(part) => self.build(weights, part, out),
+            Rest::Open(next) => open_clause(openings, next.clause, &next.row, day, out),
+            Rest::Only(part) => self.build(part, out),
             Rest::Choice(left, right) => {
                 out.push(Node::Choice);
-                self.build(weights, left, out);
-                self.build(weights, right, out);
+                self.build(left, out);
+                self.build(right, out);
             }
-            Rest::Both(left, right) => self.build_both(weights, left, right, out),
+            Rest::Both(left, right) => self.build_both(left, right, out),
             Rest::Either(left, right) => {
                 out.push(Node::Choice);
-                self.build_both(weights, Side::Taken(left), Side::Kept(right), out);
-                self.build_both(weights, Side::Kept(left), Side::Taken(right), out);
+                self.build_both(Side::Taken(left), Side::Kept(right), out);
+                self.build_both(Side::Kept(left), Side::Taken(right), out);
             }
             Rest::Follow(next) => {
                 let row = next.row;
@@ -47,7 +39,7 @@ impl Marked<'_> {
                     clause: next.clause,
                     row,
                 });
-                self.build(weights, at + 1, out);
+                self.build(at + 1, out);
             }
             Rest::Skip(next) => {
                 let row = next.row;
@@ -56,44 +48,46 @@ impl Marked<'_> {
                     clause: next.clause,
                     row,
                 });
-                self.build(weights, at + 1, out);
-                open_clause(self.openings, next.clause, &row, self.day, out);
+                self.build(at + 1, out);
+                open_clause(openings, next.clause, &row, day, out);
             }
         }
     }
 
     /// Writes a both of two sides.
     #[cycle(build_build_both_build_side)]
-    fn build_both(&self, weights: &[Weight; MOST_NODES], left: Side, right: Side, out: &mut Table)
-        requires within { (place left < place right) × (place right < 256) }
-        requires ready { Ready self.now weights.now (place left) }
-        requires beside { Ready self.now weights.now (place right) }
-        ensures { BuildsBoth self.now weights.now left right out.old out.new }
+    fn build_both(&self, left: Side, right: Side, out: &mut Table)
+        requires in_order { place left < place right }
+        requires ready { Ready self.now (place left) }
+        requires beside { Ready self.now (place right) }
+        requires room { HasRoom out.old.items (both_shape (side_shape self.now.weights.now left) (side_shape self.now.weights.now right)) }
+        ensures { BuildsBoth self.now left right out.old.items out.new.items }
     {
-        match half_of(side_shape(weights, left), side_shape(weights, right)) {
+        match half_of(self.side(left), self.side(right)) {
             Half::Lost => out.push(Node::Lost),
-            Half::Left => self.build_side(weights, left, out),
-            Half::Right => self.build_side(weights, right, out),
+            Half::Left => self.build_side(left, out),
+            Half::Right => self.build_side(right, out),
             Half::Both => {
                 out.push(Node::Both);
-                self.build_side(weights, left, out);
-                self.build_side(weights, right, out);
+                self.build_side(left, out);
+                self.build_side(right, out);
             }
         }
     }
 
     /// Writes one side of a both.
     #[cycle(build_build_both_build_side)]
-    fn build_side(&self, weights: &[Weight; MOST_NODES], side: Side, out: &mut Table)
-        requires within { place side < 256 }
-        requires ready { Ready self.now weights.now (place side) }
-        ensures { BuildsSide self.now weights.now side out.old out.new }
+    fn build_side(&self, side: Side, out: &mut Table)
+        requires ready { Ready self.now (place side) }
+        requires room { HasRoom out.old.items (side_shape self.now.weights.now side) }
+        ensures { BuildsSide self.now side out.old.items out.new.items }
     {
         match side {
-            Side::Taken(at) => self.build(weights, at, out),
+            Side::Taken(at) => self.build(at, out),
             Side::Kept(at) => {
-                let end = at + weight_at(weights, at).held.size as usize;
-                copy(self.nodes, at, end, out);
+                let end = at + usize::from(self.weight(at).held.size);
+                let kept = out.try_extend_from_slice(&self.marked.nodes[at..end]);
+                kept.unwrap();
             }
         }
     }

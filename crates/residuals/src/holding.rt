@@ -8,31 +8,42 @@ ghost use Rattle.terms.specs.Results.{Replaced};
 
 use crate::marked::Marked;
 use crate::marks::marks_of;
-use crate::weights::{Weight, weight_at};
+use crate::weighed::Weighed;
+use crate::weights::Weight;
 use kinds::Kind;
 use openings::{MOST_NODES, Openings};
-use terms::Table;
+use terms::{Table, TooLarge};
 
-/// Makes the table what a record leaves of its term, if that has at most 256 nodes; else leaves it. Says which.
+/// Makes the table what a record leaves of its term, if that has at most 256 nodes; else leaves it.
 /// Only the marks ask the kind: the rest goes by them.
-pub fn hold<K: Kind>(kind: &K, openings: &Openings, r: &K::Record, table: &mut Table) -> bool
-    requires tree { SomeTerm openings.now.read.file table.old.nodes 0 }
-    ensures { (t : Term) → Holds openings.now.read.file table.old.nodes 0 t → Replaced openings.now.read.file (residual K.Kind.meaning (templates_of openings.now.read.file) t r.now) table.old table.new result }
+pub fn hold<K: Kind>(
+    kind: &K,
+    openings: &Openings,
+    r: &K::Record,
+    table: &mut Table,
+) -> Result<(), TooLarge>
+    requires tree { SomeTerm openings.now.read.file table.old.items 0 }
+    ensures { (t : Term) → Holds openings.now.read.file table.old.items 0 t → Replaced openings.now.read.file (residual K.Kind.meaning (templates_of openings.now.read.file) t r.now) table.old.items table.new.items result }
 {
-    let marks = marks_of(kind, openings.file(), r, &table.nodes);
+    let nodes = table.as_slice();
+    let marks = marks_of(kind, openings.file(), r, nodes);
     let marked = Marked {
         openings,
-        nodes: &table.nodes,
-        marks: &marks,
+        nodes,
+        marks: marks.as_slice(),
         day: kind.day(r),
     };
     let mut weights = [Weight::lost(); MOST_NODES];
-    marked.weigh(0, &mut weights);
-    if weight_at(&weights, 0).left.size as usize > MOST_NODES {
-        return false;
+    let (whole, _) = marked.weigh(0, &mut weights);
+    if usize::from(whole.left.size) > MOST_NODES {
+        return Err(TooLarge);
     }
+    let weighed = Weighed {
+        marked,
+        weights: &weights,
+    };
     let mut next = Table::new();
-    marked.build(&weights, 0, &mut next);
+    weighed.build(0, &mut next);
     *table = next;
-    true
+    Ok(())
 }

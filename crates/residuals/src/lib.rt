@@ -8,6 +8,7 @@ mod holding;
 mod marked;
 mod marks;
 mod rests;
+mod weighed;
 mod weights;
 
 pub use holding::hold;

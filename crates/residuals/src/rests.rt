@@ -1,13 +1,12 @@
 //! What is written for what a record leaves of a term, by the weights of its parts.
-ghost use Rattle.std.specs.Prelude.{◌≡◌, ◌<◌, slice_index_or};
+ghost use Rattle.std.specs.Prelude.{◌≡◌, slice_index_or};
 ghost use Rattle.terms.specs.declared.nodes.Node.TheVariants.{Lost as LostNode};
-ghost use Rattle.residuals.specs.Marked.{nodes_of, mark_at};
+ghost use Rattle.residuals.specs.Marked.{nodes_of};
 ghost use Rattle.residuals.specs.Rests.{half_by, side_shape, leaf_rest, choice_rest, both_rest, follow_rest, rest_by};
 
-use crate::marked::Marked;
 use crate::marks::{Mark, Next};
-use crate::weights::{Weight, weight_at};
-use openings::{MOST_NODES, Shape};
+use crate::weighed::Weighed;
+use openings::Shape;
 use terms::Node;
 
 /// A side of a both.
@@ -62,16 +61,6 @@ pub(crate) fn half_of(l: Shape, r: Shape) -> Half
     }
 }
 
-/// What a side comes to.
-pub(crate) fn side_shape(weights: &[Weight; MOST_NODES], side: Side) -> Shape
-    ensures { result ≡ side_shape weights.now side }
-{
-    match side {
-        Side::Taken(place) => weight_at(weights, place).left,
-        Side::Kept(place) => weight_at(weights, place).held,
-    }
-}
-
 /// A leaf that is met goes on; otherwise it is lost.
 fn leaf_rest(mark: Mark) -> Rest
     ensures { result ≡ leaf_rest mark }
@@ -82,44 +71,54 @@ fn leaf_rest(mark: Mark) -> Rest
     }
 }
 
-/// A choice with a lost side is the other side.
-fn choice_rest(weights: &[Weight; MOST_NODES], left: usize, right: usize) -> Rest
-    ensures { result ≡ choice_rest weights.now left right }
-{
-    if weight_at(weights, left).left.lost {
-        Rest::Only(right)
-    } else if weight_at(weights, right).left.lost {
-        Rest::Only(left)
-    } else {
-        Rest::Choice(left, right)
+impl Weighed<'_> {
+    /// What a side comes to.
+    pub(crate) fn side(&self, side: Side) -> Shape
+        ensures { result ≡ side_shape self.now.weights.now side }
+    {
+        match side {
+            Side::Taken(place) => self.weight(place).left,
+            Side::Kept(place) => self.weight(place).held,
+        }
     }
-}
 
-/// The record goes to either side, unless that leaves a lost both.
-fn both_rest(weights: &[Weight; MOST_NODES], left: usize, right: usize) -> Rest
-    ensures { result ≡ both_rest weights.now left right }
-{
-    let l = weight_at(weights, left);
-    let r = weight_at(weights, right);
-    if Shape::both_of(l.left, r.held).lost {
-        Rest::Both(Side::Kept(left), Side::Taken(right))
-    } else if Shape::both_of(l.held, r.left).lost {
-        Rest::Both(Side::Taken(left), Side::Kept(right))
-    } else {
-        Rest::Either(left, right)
+    /// A choice with a lost side is the other side.
+    fn choice_rest(&self, left: usize, right: usize) -> Rest
+        ensures { result ≡ choice_rest self.now.weights.now left right }
+    {
+        if self.weight(left).left.lost {
+            Rest::Only(right)
+        } else if self.weight(right).left.lost {
+            Rest::Only(left)
+        } else {
+            Rest::Choice(left, right)
+        }
     }
-}
 
-impl Marked<'_> {
+    /// The record goes to either side, unless that leaves a lost both.
+    fn both_rest(&self, left: usize, right: usize) -> Rest
+        ensures { result ≡ both_rest self.now.weights.now left right }
+    {
+        let l = self.weight(left);
+        let r = self.weight(right);
+        if Shape::both_of(l.left, r.held).lost {
+            Rest::Both(Side::Kept(left), Side::Taken(right))
+        } else if Shape::both_of(l.held, r.left).lost {
+            Rest::Both(Side::Taken(left), Side::Kept(right))
+        } else {
+            Rest::Either(left, right)
+        }
+    }
+
     /// A follow of done or lost is lost. Where what is left of its part may end, the clause may also open at once.
     fn follow_rest(&self, part: Shape, next: Next) -> Rest
-        ensures { result ≡ follow_rest self.now part next }
+        ensures { result ≡ follow_rest self.now.marked part next }
     {
         let empty = part.done | part.lost;
         if part.ends {
             if empty {
                 Rest::Open(next)
-            } else if self.openings.at(next.clause).lost {
+            } else if self.marked.openings.at(next.clause).lost {
                 Rest::Follow(next)
             } else {
                 Rest::Skip(next)
@@ -131,20 +130,21 @@ impl Marked<'_> {
         }
     }
 
-    /// What is written for the term at a place.
-    pub(crate) fn rest_at(&self, weights: &[Weight; MOST_NODES], at: usize) -> Rest
-        requires { at < 256 }
-        ensures { result ≡ rest_by self.now weights.now at (slice_index_or (nodes_of self.now) at LostNode) }
+    /// What is written for the term at a place, lost past the end.
+    pub(crate) fn rest_at(&self, at: usize) -> Rest
+        ensures { result ≡ rest_by self.now.marked self.now.weights.now at (slice_index_or (nodes_of self.now.marked) at LostNode) }
     {
+        let Some(node) = self.marked.nodes.get(at) else {
+            return Rest::Lost;
+        };
         let left = at + 1;
-        let part = weight_at(weights, left);
-        let right = left + part.held.size as usize;
-        let node = self.nodes[at];
-        match node {
+        let part = self.weight(left);
+        let right = left + usize::from(part.held.size);
+        match *node {
             Node::Lost | Node::Done => Rest::Lost,
-            Node::Leaf { .. } => leaf_rest(self.marks[at]),
-            Node::Choice => choice_rest(weights, left, right),
-            Node::Both => both_rest(weights, left, right),
+            Node::Leaf { .. } => leaf_rest(self.marked.mark(at)),
+            Node::Choice => self.choice_rest(left, right),
+            Node::Both => self.both_rest(left, right),
             Node::Follow { clause, row } => self.follow_rest(part.left, Next { clause, row }),
         }
     }

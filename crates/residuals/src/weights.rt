@@ -1,8 +1,8 @@
 //! What a term and what is left of it come to.
 ghost use Rattle.std.specs.Prelude.{◌≡◌};
-ghost use Rattle.residuals.specs.Weights.{weight_in, lost_weight, done_weight, leaf_weight, choice_weight, both_weight, follow_weight};
+ghost use Rattle.residuals.specs.Weights.{lost_weight, done_weight, leaf_weight, choice_weight, both_weight, follow_weight};
 
-use openings::{MOST_NODES, Shape};
+use openings::Shape;
 
 /// What a term comes to, and what is left of it after the record.
 #[derive(Clone, Copy)]
@@ -69,16 +69,5 @@ impl Weight {
             held: Shape::follow_node(t.held),
             left: Shape::then_of(t.left, o),
         }
-    }
-}
-
-/// The weight at a place, and that of lost past the end.
-pub(crate) fn weight_at(weights: &[Weight; MOST_NODES], place: usize) -> Weight
-    ensures { result ≡ weight_in weights.now place }
-{
-    if place < MOST_NODES {
-        weights[place]
-    } else {
-        Weight::lost()
     }
 }

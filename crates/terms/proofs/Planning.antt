@@ -24,12 +24,8 @@ use Rattle.openings.proofs.Guarding.{guarded}
 use Rattle.openings.proofs.Facts.{known_openings}
 use Rattle.terms.specs.declared.plans.Plan.{Plan}
 use Rattle.terms.specs.declared.plans.Plan.TheVariants as plan
-use Rattle.terms.specs.Plans.{choice_plan, both_plan, then_plan, plan_by}
+use Rattle.terms.specs.Plans.{opens, choice_plan, both_plan, then_plan, plan_by}
 use Rattle.terms.proofs.Tidied as tidied
-
--- what entry i opens to
-abbrev pub opens : File → Row → ℕ → ℕ → Term
-opens f row base i = opened (templates_of f) (clause_at f i) row base
 
 pub record Stepped (f : File) (i : ℕ) : Type 0 where
   pub when : Window

@@ -1,6 +1,7 @@
--- What a table holds after pushes and writes.
-use Rattle.std.proofs.Common.{◌≡◌, ℕ, ◌+◌, ◌<◌, ◌≤◌, true, cond, ltb, ◌≢◌, List, length, get_or, set, sym, refl, ap, ◌∙◌, subst, arith, length-set, get_or-set_other, get_or-set_same}
-use Rattle.std.proofs.lemmas.Bool.Decides.{nat_tests}
+-- What nodes hold after pushes and writes.
+use Rattle.std.proofs.Common.{◌≡◌, ℕ, ◌+◌, ◌<◌, ◌≤◌, List, [], ◌∷◌, ◌++◌, length, get_or, sym, refl, ap, ◌∙◌, subst, append_assoc, append-nil, arith, length-append}
+use Rattle.std.proofs.Math.Seq.{get_or-append_seam}
+use Rattle.std.proofs.lemmas.List.{get_or_append_left}
 use Rattle.kinds.specs.Rows.{Row}
 use Rattle.kinds.specs.declared.fields.Conditions.{Conditions}
 use Rattle.language.specs.Clauses.{Window, Clause, step}
@@ -8,9 +9,8 @@ use Rattle.language.specs.Terms.{Term, Done, Lost, Leaf, Choice, Both, Follow, n
 use Rattle.contract_file.specs.declared.files.File.{File}
 use Rattle.terms.specs.declared.nodes.Node.{Node}
 use Rattle.terms.specs.declared.nodes.Node.TheVariants as node
-use Rattle.terms.specs.declared.nodes.Table.{Table}
 use Rattle.openings.specs.Clauses.{clause_at}
-use Rattle.terms.specs.Tables.{pushed, Is, Holds, Writes}
+use Rattle.terms.specs.Tables.{Is, Holds, Wrote}
 
 pub some_nodes : (t : Term) → 0 < nodes t
 some_nodes Done = omega arith
@@ -68,85 +68,77 @@ held_within f ns at (Choice l r) h = omega (arith, held_within f ns (at + 1 + no
 held_within f ns at (Both l r) h = omega (arith, held_within f ns (at + 1 + nodes l) r h.2)
 held_within f ns at (Follow t c row) h = omega (arith, held_within f ns (at + 1) t h.3)
 
--- one push, where there is room
-pub record Pushed (a b : Table) (n : Node) : Type 0 where
-  pub long : b.len ≡ a.len + 1
-  pub is : Is b.nodes a.len n
-  pub kept : (k : ℕ) → k < a.len → get_or b.nodes k node.Lost ≡ get_or a.nodes k node.Lost
-  pub same : length b.nodes ≡ length a.nodes
+-- nodes behind those of a term change nothing of it
+pub held_before : (f : File) (ns behind : List Node) (at : ℕ) (t : Term) → Holds f ns at t → Holds f (ns ++ behind) at t
+held_before f ns behind at t h =
+    let w = held_within f ns at t h in
+    moved f ns (ns ++ behind) at at t h (λ k less. (simp length-append (omega arith), get_or_append_left ns behind node.Lost (at + k) (omega arith)))
 
-pub push : (a b : Table) (n : Node) → b ≡ pushed a n → length a.nodes ≡ 256 → a.len < 256 → Pushed a b n
-push a b n e long room =
-    let t : ltb a.len 256 ≡ true = grind (arith, nat_tests) in
-    let is : b ≡ record { nodes = set a.nodes a.len n; len = a.len + 1 } = e ∙ ap (λ x. cond x (record { nodes = set a.nodes a.len n; len = a.len + 1 }) a) t in
-    let inside : a.len < length a.nodes = omega arith in
-    rw is (record {
-      long = refl;
-      is = (simp length-set inside, rw get_or-set_same);
-      kept = λ k h. (let ne : k ≢ a.len = omega arith in rw get_or-set_other);
-      same = simp length-set;
-    })
+pub longer : (f : File) (before after : List Node) (t : Term) → Wrote f before after t → length after ≡ length before + nodes t
+longer f before after t w = ap length w.is ∙ length-append before w.behind ∙ ap (λ n. length before + n) w.long
 
-module _ (f : File) (a b : Table) (n : Node) (e : b ≡ pushed a n) where
+pub retold : (f : File) (a b : List Node) (t u : Term) → t ≡ u → Wrote f a b u → Wrote f a b t
+retold f a b t u e w = subst (Wrote f a b) (sym e) w
+
+-- one node pushed
+module _ (f : File) (a b : List Node) (n : Node) (e : b ≡ a ++ n ∷ []) where
+  pub one_longer : length b ≡ length a + 1
+  one_longer = ap length e ∙ length-append a (n ∷ [])
+
+  onward : (c ys : List Node) → c ≡ b ++ ys → c ≡ a ++ n ∷ ys
+  onward c ys is = is ∙ ap (λ x. x ++ ys) e ∙ append_assoc a (n ∷ []) ys
+
+  first : (c ys : List Node) → c ≡ b ++ ys → Is c (length a) n
+  first c ys is =
+      let long : length c ≡ length a + length (n ∷ ys) = ap length (onward c ys is) ∙ length-append a (n ∷ ys) in
+      (omega arith, ap (λ x. get_or x (length a) node.Lost) (onward c ys is) ∙ get_or-append_seam a n ys node.Lost)
+
   -- one node
-  pub write_node : (t : Term) → nodes t ≡ 1 → ((ns : List Node) → Is ns a.len n → Holds f ns a.len t) → Writes f a b t
-  write_node t one by long room =
-      let p = push a b n e long (omega arith) in
-      record { long = omega arith; held = by b.nodes p.is; kept = p.kept; same = p.same }
+  write_node : (t : Term) → nodes t ≡ 1 → ((ns : List Node) → Is ns (length a) n → Holds f ns (length a) t) → Wrote f a b t
+  write_node t one by = record { behind = n ∷ []; is = e; long = sym one; held = by b (first b [] (sym (append-nil b))) }
 
   -- a node over a term
-  pub write_under : (c : Table) (u t : Term) → nodes t ≡ 1 + nodes u → ((ns : List Node) → Is ns a.len n → Holds f ns (a.len + 1) u → Holds f ns a.len t)
-      → Writes f b c u → Writes f a c t
-  write_under c u t size by w long room =
-      let p = push a b n e long (omega arith) in
-      let x = w (p.same ∙ long) (omega arith) in
-      record {
-        long = omega arith;
-        held = by c.nodes (omega arith, x.kept a.len (omega arith) ∙ p.is.1) (rw p.long at x.held);
-        kept = λ k h. x.kept k (omega arith) ∙ p.kept k h;
-        same = x.same ∙ p.same;
-      }
+  write_under : (c : List Node) (u t : Term) → nodes t ≡ 1 + nodes u
+      → ((ns : List Node) → Is ns (length a) n → Holds f ns (length a + 1) u → Holds f ns (length a) t) → Wrote f b c u → Wrote f a c t
+  write_under c u t size by w = record {
+    behind = n ∷ w.behind;
+    is = onward c w.behind w.is;
+    long = omega (arith, w.long, size);
+    held = by c (first c w.behind w.is) (rw one_longer at w.held);
+  }
 
   -- a node over two terms
-  pub write_join : (c d : Table) (l r t : Term) → nodes t ≡ 1 + (nodes l + nodes r)
-      → ((ns : List Node) → Is ns a.len n → Holds f ns (a.len + 1) l → Holds f ns (a.len + 1 + nodes l) r → Holds f ns a.len t)
-      → Writes f b c l → Writes f c d r → Writes f a d t
-  write_join c d l r t size by v w long room =
-      let p = push a b n e long (omega arith) in
-      let x = v (p.same ∙ long) (omega arith) in
-      let y = w (x.same ∙ p.same ∙ long) (omega arith) in
-      let there : c.len ≡ a.len + 1 + nodes l = omega arith in
-      let left : Holds f c.nodes (a.len + 1) l = rw p.long at x.held in
+  write_join : (c d : List Node) (l r t : Term) → nodes t ≡ 1 + (nodes l + nodes r)
+      → ((ns : List Node) → Is ns (length a) n → Holds f ns (length a + 1) l → Holds f ns (length a + 1 + nodes l) r → Holds f ns (length a) t)
+      → Wrote f b c l → Wrote f c d r → Wrote f a d t
+  write_join c d l r t size by v w =
+      let is : d ≡ b ++ (v.behind ++ w.behind) = w.is ∙ ap (λ x. x ++ w.behind) v.is ∙ append_assoc b v.behind w.behind in
+      let there : length c ≡ length a + 1 + nodes l = longer f b c l v ∙ ap (λ k. k + nodes l) one_longer in
+      let left : Holds f c (length a + 1) l = rw one_longer at v.held in
       record {
-        long = omega arith;
-        held = by d.nodes
-            (omega arith, y.kept a.len (omega arith) ∙ x.kept a.len (omega arith) ∙ p.is.1)
-            (moved f c.nodes d.nodes (a.len + 1) (a.len + 1) l left
-            (λ k h. (let w' = held_within f c.nodes (a.len + 1) l left in omega arith, y.kept (a.len + 1 + k) (omega arith))))
-            (rw there at y.held);
-        kept = λ k h. y.kept k (omega arith) ∙ x.kept k (omega arith) ∙ p.kept k h;
-        same = y.same ∙ x.same ∙ p.same;
+        behind = n ∷ (v.behind ++ w.behind);
+        is = onward d _ is;
+        long = omega (arith, length-append v.behind w.behind, v.long, w.long, size);
+        held = by d (first d _ is) (subst (λ (x : List Node). Holds f x (length a + 1) l) (sym w.is) (held_before f c w.behind (length a + 1) l left)) (rw there at w.held);
       }
 
 -- each sort of node
-pub retold : (f : File) (a b : Table) (t u : Term) → t ≡ u → Writes f a b u → Writes f a b t
-retold f a b t u e w = subst (Writes f a b) (sym e) w
-
-module _ (f : File) (a b : Table) where
-  pub write_lost : b ≡ pushed a node.Lost → Writes f a b Lost
+module _ (f : File) (a b : List Node) where
+  pub write_lost : b ≡ a ++ node.Lost ∷ [] → Wrote f a b Lost
   write_lost e = write_node f a b node.Lost e Lost refl (λ ns h. h)
 
-  pub write_done : b ≡ pushed a node.Done → Writes f a b Done
+  pub write_done : b ≡ a ++ node.Done ∷ [] → Wrote f a b Done
   write_done e = write_node f a b node.Done e Done refl (λ ns h. h)
 
-  pub write_leaf : (s : ℕ) (w : Window) (cs : Conditions) (tail : Clause) (row : Row) (base : ℕ) → clause_at f s ≡ step s w cs tail → b ≡ pushed a (node.Leaf s row base) → Writes f a b (Leaf s w cs tail row base)
+  pub write_leaf : (s : ℕ) (w : Window) (cs : Conditions) (tail : Clause) (row : Row) (base : ℕ) → clause_at f s ≡ step s w cs tail → b ≡ a ++ node.Leaf s row base ∷ []
+      → Wrote f a b (Leaf s w cs tail row base)
   write_leaf s w cs tail row base is e = write_node f a b (node.Leaf s row base) e (Leaf s w cs tail row base) refl (λ ns h. (h, is))
 
-  pub write_choice : (c d : Table) (l r : Term) → b ≡ pushed a node.Choice → Writes f b c l → Writes f c d r → Writes f a d (Choice l r)
+  pub write_choice : (c d : List Node) (l r : Term) → b ≡ a ++ node.Choice ∷ [] → Wrote f b c l → Wrote f c d r → Wrote f a d (Choice l r)
   write_choice c d l r e v w = write_join f a b node.Choice e c d l r (Choice l r) refl (λ ns x y z. (x, y, z)) v w
 
-  pub write_both : (c d : Table) (l r : Term) → b ≡ pushed a node.Both → Writes f b c l → Writes f c d r → Writes f a d (Both l r)
+  pub write_both : (c d : List Node) (l r : Term) → b ≡ a ++ node.Both ∷ [] → Wrote f b c l → Wrote f c d r → Wrote f a d (Both l r)
   write_both c d l r e v w = write_join f a b node.Both e c d l r (Both l r) refl (λ ns x y z. (x, y, z)) v w
 
-  pub write_follow : (c : Table) (t : Term) (k : ℕ) (cl : Clause) (row : Row) → clause_at f k ≡ cl → b ≡ pushed a (node.Follow k row) → Writes f b c t → Writes f a c (Follow t cl row)
+  pub write_follow : (c : List Node) (t : Term) (k : ℕ) (cl : Clause) (row : Row) → clause_at f k ≡ cl → b ≡ a ++ node.Follow k row ∷ [] → Wrote f b c t → Wrote f a c (Follow t cl row)
   write_follow c t k cl row is e w = write_under f a b (node.Follow k row) e c t (Follow t cl row) refl (λ ns x y. (k, x, is, y)) w

@@ -1,11 +1,20 @@
--- What is written for an entry, by the table of what each entry opens to: nothing that tidies away is named. Assumes nothing.
+-- What an entry opens to, and what is written for it, by the table of what each entry opens to: nothing that tidies away is
+-- named. Assumes nothing.
 use Rattle.std.specs.Prelude.{ℕ, cond, ◌||◌, List}
+use Rattle.kinds.specs.Rows.{Row}
+use Rattle.language.specs.Terms.{Term, opened}
+use Rattle.contract_file.specs.declared.files.File.{File}
 use Rattle.entries.specs.declared.entries.Entry.{Entry}
 use Rattle.entries.specs.declared.entries.Entry.TheVariants.{Lost, Done, Step, Choice, Both, Then, Call, Template, Condition, Argument}
 use Rattle.openings.specs.declared.shapes.Shape.{Shape}
 use Rattle.terms.specs.declared.plans.Plan.{Plan}
 use Rattle.terms.specs.declared.plans.Plan.TheVariants as plan
+use Rattle.openings.specs.Clauses.{clause_at, templates_of}
 use Rattle.openings.specs.Rounds.{of}
+
+-- What the clause of entry i opens to, from a row and on a base day.
+abbrev pub opens : File → Row → ℕ → ℕ → Term
+opens f row base i = opened (templates_of f) (clause_at f i) row base
 
 -- a choice with a lost side is the other side
 abbrev pub choice_plan : List Shape → ℕ → ℕ → Plan

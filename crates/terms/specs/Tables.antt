@@ -1,20 +1,11 @@
--- Tables of nodes, and the term that one holds. Assumes nothing.
-use Rattle.std.specs.Prelude.{◌≡◌, ℕ, ◌+◌, ◌<◌, ◌≤◌, cond, List, length, replicate, nat_lt, slice_index_or, slice_set}
+-- Lists of nodes, and the term that one holds. Assumes nothing.
+use Rattle.std.specs.Prelude.{◌≡◌, ℕ, ◌+◌, ◌<◌, ◌≤◌, List, ◌++◌, length, slice_index_or}
 use Rattle.language.specs.Clauses.{step}
 use Rattle.language.specs.Terms.{Term, Done, Lost, Leaf, Choice, Both, Follow, nodes}
 use Rattle.contract_file.specs.declared.files.File.{File}
 use Rattle.openings.specs.Clauses.{clause_at}
 use Rattle.terms.specs.declared.nodes.Node.{Node}
 use Rattle.terms.specs.declared.nodes.Node.TheVariants as node
-use Rattle.terms.specs.declared.nodes.Table.{Table}
-
--- No nodes yet.
-abbrev pub empty : Table
-empty = record { nodes = replicate 256 node.Lost; len = 0 }
-
--- One more node, if there is room.
-abbrev pub pushed : Table → Node → Table
-pushed t n = cond (nat_lt t.len 256) (record { nodes = slice_set t.nodes t.len n; len = t.len + 1 }) t
 
 -- A node stands at a place.
 abbrev pub Is : List Node → ℕ → Node → Type 0
@@ -29,16 +20,20 @@ Holds f ns at (Choice l r) = Is ns at node.Choice × Holds f ns (at + 1) l × Ho
 Holds f ns at (Both l r) = Is ns at node.Both × Holds f ns (at + 1) l × Holds f ns (at + 1 + nodes l) r
 Holds f ns at (Follow t c row) = (e : ℕ) × Is ns at (node.Follow e row) × (clause_at f e ≡ c) × Holds f ns (at + 1) t
 
--- The table after is the table before with a term behind it.
-pub record Wrote (f : File) (before after : Table) (t : Term) : Type 0 where
-  pub long : after.len ≡ before.len + nodes t
-  pub held : Holds f after.nodes before.len t
-  pub kept : (k : ℕ) → k < before.len → slice_index_or after.nodes k node.Lost ≡ slice_index_or before.nodes k node.Lost
-  pub same : length after.nodes ≡ length before.nodes
+-- The nodes are those of a term, node for node, and no others.
+abbrev pub Whole : File → List Node → Term → Type 0
+Whole f ns t = Holds f ns 0 t × (length ns ≡ nodes t)
+
+-- The nodes after are those before with a term's behind them.
+pub record Wrote (f : File) (before after : List Node) (t : Term) : Type 0 where
+  pub behind : List Node
+  pub is : after ≡ before ++ behind
+  pub long : length behind ≡ nodes t
+  pub held : Holds f after (length before) t
 
 -- A term is written if it fits.
-abbrev pub Writes : File → Table → Table → Term → Type 0
-Writes f before after t = length before.nodes ≡ 256 → before.len + nodes t ≤ 256 → Wrote f before after t
+abbrev pub Writes : File → List Node → List Node → Term → Type 0
+Writes f before after t = length before + nodes t ≤ 256 → Wrote f before after t
 
 -- The nodes hold some term from a place on.
 pub record SomeTerm (f : File) (ns : List Node) (at : ℕ) : Type 0 where

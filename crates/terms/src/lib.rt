@@ -5,6 +5,8 @@ mod filling;
 mod nodes;
 mod opening;
 mod plans;
+mod too_large;
 
 pub use nodes::{Node, Table};
 pub use opening::{open_clause, open_contract};
+pub use too_large::TooLarge;

@@ -1,5 +1,5 @@
-use Rattle.std.proofs.Common.{◌-◌}
+use Rattle.std.proofs.Common.{◌-◌, length}
 use Rattle.outlook.proofs.looking.+look.Given as goal
 
 abbrev pub decreases-look : goal.decreases-look
-decreases-look l = 256 - l.at
+decreases-look l = length l.nodes.now - l.at

@@ -1,30 +1,17 @@
-use Rattle.std.proofs.Common.{ap, arith}
-use Rattle.residuals.proofs.Leaving.{standing, ready, taken, kept}
+use Rattle.std.proofs.Common.{List, sym, ◌∙◌, subst}
+use Rattle.terms.specs.declared.nodes.Node.{Node}
+use Rattle.terms.specs.Tables.{Holds}
+use Rattle.residuals.proofs.Leaving.{ready, taken, kept}
 use Rattle.residuals.proofs.holding.hold.Goals as goal
 
-pub weigh-requires : goal.weigh-requires
-weigh-requires g c =
-    let x = c.requires.tree in
-    record {
-      within = omega arith;
-      standing = standing g.K.Kind.meaning _ c.args.r.now _ c.file.ensures.same c.marks_of-marks.ensures.marked c.day.ensures c.marks_of-marks.ensures.long x.term x.held;
-    }
-
-pub returns-then-weight_at-gt-MOST_NODES : goal.returns-then-weight_at-gt-MOST_NODES
-returns-then-weight_at-gt-MOST_NODES g c = λ t h.
-    kept g.K.Kind.meaning _ c.args.r.now _ c.file.ensures.same c.marks_of-marks.ensures.marked c.day.ensures _ _ _ c.marks_of-marks.ensures.long c.weigh.ensures t h
-    _ _ (ap (λ w. w.left.size) c.weight_at.ensures) c.if-weight_at-gt-MOST_NODES.true
-
-pub build-requires : goal.build-requires
-build-requires g c =
-    let x = c.requires.tree in
-    record {
-      within = omega arith;
-      ready = ready g.K.Kind.meaning _ c.args.r.now _ c.file.ensures.same c.marks_of-marks.ensures.marked c.day.ensures _ _ _ c.marks_of-marks.ensures.long c.weigh.ensures x.term x.held;
-    }
+pub returns-then-from-gt-MOST_NODES : goal.returns-then-from-gt-MOST_NODES
+returns-then-from-gt-MOST_NODES g c = λ t h.
+    let held = subst (λ (ns : List Node). Holds c.args.openings.now.read.file ns 0 t) (sym c.as_slice-nodes.ensures.value) h in
+    kept g.K.Kind.meaning _ c.args.r.now _ c.file.ensures.same (c.as_slice.ensures.value ∙ c.marks_of-marks.ensures) c.day.ensures _ _ _ _ c.weigh.ensures.weighed t held
+    _ _ c.from.ensures c.if-from-gt-MOST_NODES.true
 
 pub returns : goal.returns
 returns g c = λ t h.
-    let x = ready g.K.Kind.meaning _ c.args.r.now _ c.file.ensures.same c.marks_of-marks.ensures.marked c.day.ensures _ _ _ c.marks_of-marks.ensures.long c.weigh.ensures t h in
-    taken g.K.Kind.meaning _ c.args.r.now _ c.file.ensures.same c.marks_of-marks.ensures.marked c.day.ensures _ _ _ c.marks_of-marks.ensures.long c.weigh.ensures t h
-    _ _ _ _ (ap (λ w. w.left.size) c.weight_at.ensures) c.if-weight_at-gt-MOST_NODES.false c.new-next.ensures (c.build.ensures x)
+    let held = subst (λ (ns : List Node). Holds c.args.openings.now.read.file ns 0 t) (sym c.as_slice-nodes.ensures.value) h in
+    taken g.K.Kind.meaning _ c.args.r.now _ c.file.ensures.same (c.as_slice.ensures.value ∙ c.marks_of-marks.ensures) c.day.ensures _ _ _ _ c.weigh.ensures.weighed t held
+    _ _ _ _ c.from.ensures c.if-from-gt-MOST_NODES.false c.new-next.ensures (c.build.ensures (ready _ _ _ _ c.weigh.ensures.weighed t held))

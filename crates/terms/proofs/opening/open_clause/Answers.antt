@@ -6,11 +6,17 @@ use Rattle.terms.proofs.Planning.{sound_file}
 use Rattle.terms.proofs.opening.open_clause.Goals as goal
 
 pub open_from-requires : goal.open_from-requires
-open_from-requires c = few_calls c.args.openings.now.read.file (sound_file c.args.openings.now) c.args.clause
-
--- what does not fit is not promised
-pub returns-else-at-out-le-MOST_NODES : goal.returns-else-at-out-le-MOST_NODES
-returns-else-at-out-le-MOST_NODES c long fits =
+open_from-requires c =
     let o = c.args.openings.now in
     let told = ap (λ (s : Shape). s.size) (c.at.ensures.same ∙ known_openings _ _ o.known c.args.clause c.args.row.now c.args.base) in
-    absurd (omega (arith, told, fits, c.if-at-out-le-MOST_NODES))
+    record {
+      bare = few_calls o.read.file (sound_file o) c.args.clause;
+      room = omega (arith, told, c.from-size.ensures, c.remaining_capacity.ensures, c.if-size-remaining_capacity);
+    }
+
+-- what does not fit is not promised
+pub returns-else-size-remaining_capacity : goal.returns-else-size-remaining_capacity
+returns-else-size-remaining_capacity c fits =
+    let o = c.args.openings.now in
+    let told = ap (λ (s : Shape). s.size) (c.at.ensures.same ∙ known_openings _ _ o.known c.args.clause c.args.row.now c.args.base) in
+    absurd (omega (arith, told, fits, c.from-size.ensures, c.remaining_capacity.ensures, c.if-size-remaining_capacity))

@@ -1,6 +1,6 @@
 use Rattle.std.proofs.Common.{◌+◌, ◌-◌, ◌*◌}
 use Rattle.residuals.specs.Rests.{place}
-use Rattle.residuals.proofs.marked.Marked.+build_build_both_build_side.Given as goal
+use Rattle.residuals.proofs.weighed.Weighed.+build_build_both_build_side.Given as goal
 
 -- the places behind; a both comes before its sides, and these before what is left of them
 abbrev pub decreases-build : goal.decreases-build
