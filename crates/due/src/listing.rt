@@ -45,6 +45,7 @@ fn write_dues(dues: &[Due], list: &mut [u64])
     requires { 3 * length dues.now ≤ length list.old }
     ensures { list.new ≡ over (flat_map numbers dues.now) list.old }
 {
+    // Kept by place: what a list holds is not known once its chunks were lent out.
     for (leaf, due) in dues.iter().enumerate() {
         let place = ITEM * leaf;
         list[place..place + ITEM].copy_from_slice(&due.numbers());

@@ -1,4 +1,3 @@
-pub mod Facts
 pub mod Opening
 pub mod Reading
 pub mod Taking

@@ -6,7 +6,7 @@ use Rattle.terms.specs.Tables.{Whole}
 
 -- The file that was checked.
 abbrev pub file_of : Held → File
-file_of h = h.foreseen.openings.read.file
+file_of h = h.foreseen.prospect.openings.read.file
 
 -- The term that is left of the contract, node for node.
 abbrev pub Holding : Held → Term → Type 0

@@ -6,7 +6,7 @@ ghost use Rattle.answers.specs.Approving.{contract_opened};
 
 use approval::Checked;
 use contract_file::File;
-use horizon::Horizon;
+use horizon::{Horizon, Prospect};
 use openings::Openings;
 use std::alloc::{AllocError, Global};
 
@@ -14,51 +14,44 @@ use std::alloc::{AllocError, Global};
 /// clause can end: made by `over` alone.
 #[derive(Drop)]
 pub struct Foreseen {
-    pub(crate) openings: Openings,
+    pub(crate) prospect: Prospect,
     pub(crate) day: u32,
-    pub(crate) horizon: Horizon,
     ghost early: { day ≤ 65535 },
-    ghost small: { nodes (contract_opened openings.read.file day) ≤ 256 },
-    ghost foretold: { ∥ Foretells openings.read.file horizon.spans horizon.rows.items ∥₁ },
+    ghost small: { nodes (contract_opened prospect.openings.read.file day) ≤ 256 },
 }
 
 impl Foreseen {
     /// Works the ends out, and spends the checked file. The ends by day of a file with calendar windows stand on the
     /// heap; no other file takes memory.
     pub fn over(heap: Global, checked: Checked) -> Result<Foreseen, AllocError>
-        ensures same { IfOk result (λ f. f.openings.read.file ≡ checked.read.file) }
+        ensures same { IfOk result (λ f. f.prospect.openings.read.file ≡ checked.openings.read.file) }
         ensures on { IfOk result (λ f. f.day ≡ checked.day) }
     {
         let day = checked.day();
-        let openings = Openings::of(checked.into_read());
-        let horizon = Horizon::over(heap, openings.read())?;
-        Ok(Foreseen {
-            openings,
-            day,
-            horizon,
-        })
+        let prospect = Prospect::over(heap, checked.into_openings())?;
+        Ok(Foreseen { prospect, day })
     }
 
     /// What each entry opens to, with the file.
     pub fn openings(&self) -> &Openings
-        ensures { result.now ≡ self.now.openings }
+        ensures { result.now ≡ self.now.prospect.openings }
     {
-        &self.openings
+        &self.prospect.openings
     }
 
     /// When each entry's clause can end.
     pub fn horizon(&self) -> &Horizon
-        ensures same { result.now ≡ self.now.horizon }
-        ensures foretold { Foretells self.now.openings.read.file result.now.spans result.now.rows.items }
+        ensures same { result.now ≡ self.now.prospect.horizon }
+        ensures foretold { Foretells self.now.prospect.openings.read.file result.now.spans result.now.rows.items }
     {
-        &self.horizon
+        &self.prospect.horizon
     }
 
     /// The file.
     pub fn file(&self) -> &File
-        ensures { result.now ≡ self.now.openings.read.file }
+        ensures { result.now ≡ self.now.prospect.openings.read.file }
     {
-        self.openings.file()
+        self.prospect.openings.file()
     }
 
     /// The signing day.
@@ -70,9 +63,9 @@ impl Foreseen {
 
     /// How many nodes the contract has when it is opened on the signing day.
     pub fn nodes(&self) -> u16
-        ensures { result ≡ nodes (contract_opened self.now.openings.read.file self.now.day) }
+        ensures { result ≡ nodes (contract_opened self.now.prospect.openings.read.file self.now.day) }
     {
         let contract = self.file().contract;
-        self.openings.at(contract).size()
+        self.prospect.openings.at(contract).size()
     }
 }

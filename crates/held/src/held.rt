@@ -10,5 +10,5 @@ use terms::Table;
 pub struct Held {
     pub(crate) foreseen: Foreseen,
     pub(crate) table: Table,
-    ghost whole: { ∥ SomeWhole foreseen.openings.read.file table.items ∥₁ },
+    ghost whole: { ∥ SomeWhole foreseen.prospect.openings.read.file table.items ∥₁ },
 }

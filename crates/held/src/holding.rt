@@ -21,7 +21,7 @@ impl Held {
     /// Opens the contract of a checked file on its signing day, and spends the checked file.
     pub fn open(foreseen: Foreseen) -> Held
         ensures same { result.foreseen ≡ foreseen }
-        ensures holding { Holding result (contract_opened foreseen.openings.read.file foreseen.day) }
+        ensures holding { Holding result (contract_opened foreseen.prospect.openings.read.file foreseen.day) }
     {
         let mut table = Table::new();
         // A checked contract fits.
@@ -61,11 +61,6 @@ impl Held {
     pub fn end_day(&self, clock: u32) -> Option<u32>
         ensures { (t : Term) → Holding self.now t → result ≡ end_day (durations (templates_of (file_of self.now))) t clock }
     {
-        end_day(
-            self.foreseen.openings(),
-            self.foreseen.horizon(),
-            &self.table,
-            clock,
-        )
+        end_day(&self.foreseen.prospect, &self.table, clock)
     }
 }

@@ -1,5 +1,5 @@
 -- The new file's entries are lost, so that its horizon is never.
-use Rattle.std.proofs.Common.{◌≡◌, ℕ, List, get_or, replicate, sym, ap, ◌∙◌, arith}
+use Rattle.std.proofs.Common.{◌≡◌, ℕ, List, Option, get_or, replicate, sym, ap, ◌∙◌, arith}
 use native.Mathlib.Decide.{dec_le}
 use lib.ListN.{get_or-replicate, length-replicate}
 use Rattle.std.proofs.lemmas.List.{get_or_past}
@@ -21,6 +21,6 @@ new_entries_are_lost : (i : ℕ) → clause_at fresh i ≡ lost
 unfolding clause_at clause_of
 new_entries_are_lost i = ap (clause_by fresh (clause_of fresh 256) i) (filled_with 257 i Lost)
 
-pub no_new_entry_ends : (rows : List ℕ) → Foretells fresh (replicate 257 Never) rows
+pub no_new_entry_ends : (rows : List (Option ℕ)) → Foretells fresh (replicate 257 Never) rows
 no_new_entry_ends rows i base h =
     ap (by_span rows base) (filled_with 257 i Never) ∙ sym (ap (λ (c : Clause). ends (durations (templates_of fresh)) c base) (new_entries_are_lost i))

@@ -1,3 +1,5 @@
 pub mod Rows
 pub mod Telling
+pub mod Adding
 pub mod Freshly
+pub mod Facts

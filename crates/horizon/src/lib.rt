@@ -1,9 +1,8 @@
 //! The earliest end of each entry's clause, by its base day.
 #![tactic(auto)]
 
-mod filling;
 mod horizon;
-mod lookup;
+mod prospect;
 
-pub use horizon::Horizon;
-pub use lookup::DAYS;
+pub use horizon::{DAYS, Horizon};
+pub use prospect::Prospect;

@@ -1,3 +1,4 @@
+pub mod Downward
 pub mod Facts
 pub mod Shaping
 pub mod Unfolding

@@ -1,9 +1,10 @@
 -- Rounds come to what is opened.
-use Rattle.std.proofs.Common.{◌≡◌, ℕ, zero, suc, ◌+◌, ◌<◌, ◌≤◌, ◌≢◌, List, length, get_or, set, replicate, sym, refl, ap, ◌∙◌, ap₂, add-one, arith, length-set, get_or-set_other, get_or-set_same}
+use Rattle.std.proofs.Common.{map, ◌≡◌, ℕ, zero, suc, ◌+◌, ◌<◌, ◌≤◌, ◌≢◌, List, length, get_or, set, replicate, sym, refl, ap, ◌∙◌, ap₂, add-one, arith, length-set, get_or-set_other, get_or-set_same}
 use native.Mathlib.Decide.{dec_le}
 use lib.ListN.{length-replicate}
 use Rattle.std.proofs.lemmas.List.{get_or_past, get_or-replicate}
-use Rattle.std.proofs.lemmas.List.FromFn.{fill_by_all}
+use Rattle.std.specs.List.{range_with_len}
+use Rattle.std.proofs.lemmas.List.FromFn.{get_or-map-range_with_len, length-map-range_with_len, fill_by_all}
 use Rattle.kinds.specs.Rows.{Row, fill, zeros}
 use Rattle.language.specs.Clauses.{Clause, done, lost, step, choice, both, then, call, body}
 use Rattle.language.specs.Terms.{Term, open_with, open_call, opened}
@@ -17,6 +18,8 @@ use Rattle.openings.specs.declared.shapes.Shape.{Shape}
 use Rattle.openings.specs.Clauses.{clause_by, clause_at, templates_of, body_of, body_at}
 use Rattle.openings.specs.Shapes.{shape_of, lost_shape, choice_shape, both_shape, then_shape, Known, KnownCalls, openings_of}
 use Rattle.openings.specs.Rounds.{of, entry_shape, clause_shape, Passed, Called}
+use Rattle.openings.specs.Passes.{told_past}
+use Rattle.openings.proofs.Downward.{past_is}
 use Rattle.openings.proofs.Shaping.{choice_shape_is, both_shape_is, then_shape_is}
 use Rattle.openings.proofs.Unfolding.{Leading, leads_at, unfolds, unfolds_none, unfolds_past, body_is, body_past, sixteen}
 
@@ -65,6 +68,27 @@ module _ (f : File) (up : Leading f) (calls : List Shape) where
           there ∙ inv.1 k (omega arith))
     ],
   )
+
+  -- the shape of each entry at its number
+  abbrev pub all_shapes : List Shape
+  all_shapes = map (λ i. clause_shape calls (clause_at f i)) (range_with_len 0 257)
+
+  pub all_shapes_long : length all_shapes ≡ 257
+  all_shapes_long = length-map-range_with_len (λ i. clause_shape calls (clause_at f i)) 0 257
+
+  all_shapes_at : (i : ℕ) → of all_shapes i ≡ clause_shape calls (clause_at f i)
+  all_shapes_at i = elim (dec_le 257 i) [
+    | yes h ↦ get_or_past all_shapes i lost_shape (omega (arith, all_shapes_long)) ∙ sym (ap (clause_shape calls) (unfolds_past f up i h))
+    | no h ↦ get_or-map-range_with_len (λ j. clause_shape calls (clause_at f j)) 0 257 i i lost_shape (omega arith) (omega arith)
+  ]
+
+  pub entry_shape_is : (i : ℕ) → entry_shape (told_past lost_shape all_shapes i) calls (at f.entries i) ≡ of all_shapes i
+  entry_shape_is i =
+      entry_is (told_past lost_shape all_shapes i) i (λ k h. past_is lost_shape all_shapes i k h ∙ all_shapes_at k) (at f.entries i) (leads_at f up i)
+      ∙ ap (clause_shape calls) (sym (unfolds f up i)) ∙ sym (all_shapes_at i)
+
+  pub passed : (s : List Shape) → s ≡ all_shapes → Passed f calls 0 s
+  passed s is = (ap (λ (l : List Shape). length l) is ∙ all_shapes_long, λ i low. ap (λ l. of l i) is ∙ all_shapes_at i)
 
   -- past the last entry nothing stands
   pub pass_none : (i : ℕ) → 257 ≤ i → clause_shape calls (clause_at f i) ≡ lost_shape

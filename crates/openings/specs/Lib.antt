@@ -1,3 +1,4 @@
+pub mod Passes
 pub mod Clauses
 pub mod Shapes
 pub mod Rounds

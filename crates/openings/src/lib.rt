@@ -2,9 +2,11 @@
 #![tactic(auto)]
 
 mod known;
+mod passes;
 mod rounds;
 mod shapes;
 
 pub use known::Openings;
+pub use passes::fill_from_last;
 pub use rounds::{body, openings};
 pub use shapes::{MOST_NODES, Shape, shape_at};

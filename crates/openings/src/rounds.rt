@@ -5,6 +5,7 @@ ghost use Rattle.openings.specs.Clauses.{body_of, body_at, templates_of};
 ghost use Rattle.openings.specs.Shapes.{Known, openings_of};
 ghost use Rattle.openings.specs.Rounds.{entry_shape, Passed, Called};
 
+use crate::passes::fill_from_last;
 use crate::shapes::{Shape, shape_at};
 use contract_file::{File, MOST_TEMPLATES, PLACES, ReadFile, template_at};
 use entries::Entry;
@@ -59,12 +60,10 @@ fn entry_shape(entry: Entry, shapes: &[Shape; PLACES], calls: &[Shape; TEMPLATES
 fn pass(read: &ReadFile, calls: &[Shape; TEMPLATES]) -> [Shape; PLACES]
     ensures { Passed read.now.file calls.now 0 result }
 {
-    let entries = &read.file().entries;
-    let mut shapes = [Shape::Lost; PLACES];
-    for place in (0..PLACES).rev() {
-        shapes[place] = entry_shape(entries[place], &shapes, calls);
-    }
-    shapes
+    let file = read.file();
+    fill_from_last(Shape::Lost, |number, shapes| {
+        entry_shape(file.at(number), shapes, calls)
+    })
 }
 
 /// What the templates open to, by what the entries do.

@@ -14,6 +14,7 @@ use Rattle.entries.specs.Parts.{at}
 use Rattle.contract_file.specs.declared.files.File.{File}
 use Rattle.openings.specs.Clauses.{clause_by, clause_at, templates_of}
 use Rattle.openings.proofs.Unfolding.{Leading, unfolds}
+use Rattle.spans.proofs.Lasting.{after_same}
 use Rattle.horizon.specs.declared.horizon.Horizon.{Horizon}
 use Rattle.outlook.specs.Outlooks.{horizon_end, Foretold, leaf_end}
 
@@ -52,10 +53,6 @@ module _ (D : Durations) where
       by : (x : Option ℕ) → x ≡ None → Attained x InTime
       by None e = tt
       by (Some d) e = (let z : ◌≡◌ {A = ℕ} 0 1 = cc in absurd (omega arith))
-
-after_same : (x : Option ℕ) (g k : ℕ → Option ℕ) → Attained x InTime → ((d : ℕ) → d ≤ 65535 → g d ≡ k d) → after x g ≡ after x k
-after_same None g k h same = refl
-after_same (Some d) g k h same = same d h
 
 module _ (f : File) (h : Horizon) (told : Foretold f h) where
   abbrev D : Durations

@@ -1,16 +1,15 @@
 //! What can be told of the ends of a term at a clock, from what is told of its parts.
 ghost use Rattle.std.specs.Prelude.{◌≡◌};
-ghost use Rattle.language.specs.Ends.{after};
 ghost use Rattle.entries.specs.Parts.{at};
-ghost use Rattle.outlook.specs.Outlooks.{horizon_end, lost_outlook, done_outlook, leaf_end, leaf_outlook, choice_outlook, both_outlook, follow_outlook, end_of};
+ghost use Rattle.outlook.specs.Outlooks.{lost_outlook, done_outlook, leaf_end, leaf_outlook, choice_outlook, both_outlook, follow_outlook, end_of};
 
-use contract_file::File;
 use days::{earlier, later};
 use entries::Entry;
-use horizon::Horizon;
+use horizon::{Horizon, Prospect};
 
 /// The ends of a term at a clock.
-#[derive(Clone, Copy)]
+// Kept as two facts: a term that may end as it stands can also end later, so `ends` is no flag of `next`.
+#[derive(Clone, Copy, Debug, PartialEq, Eq)]
 pub struct Outlook {
     /// The term may end as it stands.
     pub ends: bool,
@@ -45,12 +44,12 @@ impl Outlook {
     }
 
     /// A leaf waits for a record that meets its step.
-    pub(crate) fn leaf(file: &File, horizon: &Horizon, step: u16, base: u32, clock: u32) -> Outlook
-        ensures { result ≡ leaf_outlook file.now horizon.now step base clock }
+    pub(crate) fn leaf(prospect: &Prospect, step: u16, base: u32, clock: u32) -> Outlook
+        ensures { result ≡ leaf_outlook prospect.now.openings.read.file prospect.now.horizon step base clock }
     {
         Outlook {
             ends: false,
-            next: leaf_end(file, horizon, step, base, clock),
+            next: leaf_end(prospect, step, base, clock),
         }
     }
 
@@ -81,25 +80,20 @@ impl Outlook {
     {
         Outlook {
             ends: false,
-            next: end_after(term.next, horizon, clause),
+            next: term.next.and_then(|day| horizon.end(clause, day)),
         }
     }
 }
 
-/// The earliest end of an entry's clause from a day that may be absent.
-fn end_after(day: Option<u32>, horizon: &Horizon, clause: u16) -> Option<u32>
-    ensures { result ≡ after day (horizon_end horizon.now clause) }
-{
-    horizon.end(clause, day?)
-}
-
 /// The earliest end of a step that is met on the first day of its window that the clock leaves, and of its tail from that day.
-fn leaf_end(file: &File, horizon: &Horizon, step: u16, base: u32, clock: u32) -> Option<u32>
-    ensures { result ≡ leaf_end horizon.now base clock (at file.now.entries step) }
+fn leaf_end(prospect: &Prospect, step: u16, base: u32, clock: u32) -> Option<u32>
+    ensures { result ≡ leaf_end prospect.now.horizon base clock (at prospect.now.openings.read.file.entries step) }
 {
-    let entry = file.at(step);
-    match entry {
-        Entry::Step { window, tail, .. } => end_after(window.reach(base, clock), horizon, tail),
+    match prospect.openings.file().at(step) {
+        Entry::Step { window, tail, .. } => {
+            let day = window.reach(base, clock)?;
+            prospect.horizon.end(tail, day)
+        }
         _ => None,
     }
 }

@@ -12,6 +12,7 @@ use terms::{Node, Table, open_clause};
 impl Weighed<'_> {
     /// Writes what is left of the term at a place.
     #[cycle(build_build_both_build_side)]
+    #[tactic(auto, using(crate::proofs::Resting::left_some))]
     pub(crate) fn build(&self, at: usize, out: &mut Table)
         requires ready { Ready self.now at }
         requires room { HasRoom out.old.items (weight_in self.now.weights.now at).left }
@@ -56,6 +57,7 @@ impl Weighed<'_> {
 
     /// Writes a both of two sides.
     #[cycle(build_build_both_build_side)]
+    #[tactic(auto, using(crate::proofs::Resting::both_some))]
     fn build_both(&self, left: Side, right: Side, out: &mut Table)
         requires in_order { place left < place right }
         requires ready { Ready self.now (place left) }

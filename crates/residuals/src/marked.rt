@@ -6,7 +6,7 @@ use openings::Openings;
 use terms::Node;
 
 /// The nodes of a term with the marks of a record at their places, the record's day, and what the entries open to.
-// Kept as a list beside the nodes: a side that stays is copied as a slice of nodes.
+// Kept beside the nodes, place by place: a side that stays is copied as a slice of nodes.
 #[derive(Clone, Copy)]
 pub(crate) struct Marked<'a> {
     pub(crate) openings: &'a Openings,

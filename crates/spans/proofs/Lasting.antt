@@ -1,8 +1,9 @@
 -- A pass tells how many days the entries last.
-use Rattle.std.proofs.Common.{◌≡◌, ℕ, ◌+◌, ◌<◌, ◌≤◌, ◌≢◌, List, length, get_or, set, replicate, Some, None, Option, sym, refl, ap, ◌∙◌, ap₂, arith, length-set, get_or-set_other, get_or-set_same}
+use Rattle.std.proofs.Common.{◌≡◌, ℕ, ◌<◌, ◌≤◌, List, map, length, Some, None, Option, sym, refl, ap, ◌∙◌, ap₂, arith}
 use native.Mathlib.Decide.{dec_le}
-use lib.ListN.{length-replicate}
-use Rattle.std.proofs.lemmas.List.{get_or_past, get_or-replicate}
+use Rattle.std.specs.List.{range_with_len}
+use Rattle.std.proofs.lemmas.List.{get_or_past}
+use Rattle.std.proofs.lemmas.List.FromFn.{get_or-map-range_with_len, length-map-range_with_len}
 use Rattle.language.specs.Clauses.{from_base, calendar, Clause, done, lost, step, choice, both, then, call}
 use Rattle.language.specs.Ends.{earlier, later, after, reach, Durations, ends, Relative}
 use Rattle.language.proofs.Days.{Attained, at_weaker, at_reach}
@@ -14,10 +15,12 @@ use Rattle.entries.specs.Parts.{at}
 use Rattle.contract_file.specs.declared.files.File.{File}
 use Rattle.contract_file.specs.Pointing.{EntryLeads}
 use Rattle.openings.specs.Clauses.{clause_by, clause_at}
+use Rattle.openings.specs.Passes.{told_past}
+use Rattle.openings.proofs.Downward.{past_is}
 use Rattle.openings.proofs.Unfolding.{Leading, leads_at, unfolds, unfolds_past}
 use Rattle.spans.specs.Rounds.{of, following, entry_lasts, lasts, Passed}
 
-after_same : (x : Option ℕ) (f g : ℕ → Option ℕ) → Attained x (λ d. d ≤ 65535) → ((n : ℕ) → n ≤ 65535 → f n ≡ g n) → after x f ≡ after x g
+pub after_same : (x : Option ℕ) (f g : ℕ → Option ℕ) → Attained x (λ d. d ≤ 65535) → ((n : ℕ) → n ≤ 65535 → f n ≡ g n) → after x f ≡ after x g
 after_same None f g h k = refl
 after_same (Some n) f g h k = k n h
 
@@ -40,18 +43,6 @@ module _ (D : Durations) where
       (λ n h. ap (shift n) (lasts_is r p.1) ∙ sym (ends_from_zero D r p.1 n h))
   lasts_is (call k args) p = refl
 
-pub none_known : (n k : ℕ) → of (replicate n None) k ≡ None
-none_known n k = elim (dec_le n k) [
-  | yes h ↦ past (replicate n None) (rw long h)
-  | no h ↦ get_or-replicate n k None None (omega arith)
-]
-  where
-    long : length {A = Option ℕ} (replicate n None) ≡ n
-    long = simp length-replicate
-
-    past : (xs : List (Option ℕ)) → length xs ≤ k → of xs k ≡ None
-    past xs h = get_or_past xs k None h
-
 -- one entry of a pass
 module _ (f : File) (up : Leading f) (D : Durations) where
   entry_is : (s : List (Option ℕ)) (i : ℕ) → ((k : ℕ) → i < k → of s k ≡ lasts D (clause_at f k)) → (e : Entry) → EntryLeads f i e
@@ -67,22 +58,26 @@ module _ (f : File) (up : Leading f) (D : Durations) where
   entry_is s i h (entries.Condition k t x) p = refl
   entry_is s i h (entries.Argument k v x) p = refl
 
-  pub pass_more : (s : List (Option ℕ)) (i to : ℕ) (e : Entry) (x : Option ℕ) → i < 257 → to ≡ i + 1 → Passed f D to s → e ≡ at f.entries i → x ≡ entry_lasts s D e → Passed f D i (set s i x)
-  pass_more s i to e x small is inv ee ex = (
-    simp length-set inv.0,
-    λ k low. elim (dec_le k i) [
-      | yes j ↦ (let same : k ≡ i = omega arith in
-          let inside : i < length s = omega (arith, inv.0) in
-          let here : get_or (set s i x) i None ≡ x = rw get_or-set_same in
-          ap (of (set s i x)) same ∙ here ∙ ex ∙ ap (entry_lasts s D) ee
-          ∙ entry_is s i (λ q h. inv.1 q (omega arith)) (at f.entries i) (leads_at f up i)
-          ∙ ap (lasts D) (sym (unfolds f up i)) ∙ sym (ap (λ q. lasts D (clause_at f q)) same))
-      | no j ↦ (let ne : k ≢ i = omega arith in
-          let there : get_or (set s i x) k None ≡ get_or s k None = rw get_or-set_other in
-          there ∙ inv.1 k (omega arith))
-    ],
-  )
+  -- the days of each entry at its number
+  abbrev pub all_last : List (Option ℕ)
+  all_last = map (λ i. lasts D (clause_at f i)) (range_with_len 0 257)
 
-  -- past the last entry nothing stands
-  pub pass_none : (i : ℕ) → 257 ≤ i → lasts D (clause_at f i) ≡ None
-  pass_none i h = ap (lasts D) (unfolds_past f up i h)
+  pub all_last_long : length all_last ≡ 257
+  all_last_long = length-map-range_with_len (λ i. lasts D (clause_at f i)) 0 257
+
+  past_none : (i : ℕ) → 257 ≤ i → lasts D (clause_at f i) ≡ None
+  past_none i h = ap (lasts D) (unfolds_past f up i h)
+
+  pub all_last_at : (i : ℕ) → of all_last i ≡ lasts D (clause_at f i)
+  all_last_at i = elim (dec_le 257 i) [
+    | yes h ↦ get_or_past all_last i None (omega (arith, all_last_long)) ∙ sym (past_none i h)
+    | no h ↦ get_or-map-range_with_len (λ j. lasts D (clause_at f j)) 0 257 i i None (omega arith) (omega arith)
+  ]
+
+  pub entry_lasts_is : (i : ℕ) → entry_lasts (told_past None all_last i) D (at f.entries i) ≡ of all_last i
+  entry_lasts_is i =
+      entry_is (told_past None all_last i) i (λ k h. past_is None all_last i k h ∙ all_last_at k) (at f.entries i) (leads_at f up i)
+      ∙ ap (lasts D) (sym (unfolds f up i)) ∙ sym (all_last_at i)
+
+  pub passed : (s : List (Option ℕ)) → s ≡ all_last → Passed f D s
+  passed s is = (ap (λ (l : List (Option ℕ)). length l) is ∙ all_last_long, λ i. ap (λ l. of l i) is ∙ all_last_at i)

@@ -1,6 +1,8 @@
 -- The rounds come to the durations.
-use Rattle.std.proofs.Common.{eqb, ◌&&◌, ◌≡◌, ℕ, zero, suc, ◌+◌, ◌*◌, ◌<◌, true, false, ◌≢◌, List, [], ◌∷◌, map, length, get_or, set, replicate, Some, None, Option, sym, refl, ap, ◌∙◌, ap₂, arith, length-set, get_or-set_other, get_or-set_same, ext_get_or}
+use Rattle.std.proofs.Common.{eqb, ◌&&◌, ◌≡◌, ℕ, zero, suc, ◌+◌, ◌*◌, ◌<◌, ◌≤◌, true, false, List, [], ◌∷◌, map, length, get_or, replicate, Some, None, Option, sym, refl, ap, ◌∙◌, subst, ap₂, arith, ext_get_or}
 use native.Mathlib.Decide.{dec_le}
+use denote.Param.Members.{Mut, Called}
+use Rattle.std.specs.Array.{IsFromFnResultFrom}
 use Rattle.std.specs.Cmp.Lexicographic.{pointwise}
 use Rattle.std.specs.Option.{option_eq}
 use Rattle.std.proofs.lemmas.Bool.{cond-true, cond-false}
@@ -10,7 +12,7 @@ use Rattle.contract_file.specs.declared.files.File.{File}
 use Rattle.contract_file.specs.Sound.{Sound}
 use Rattle.openings.specs.Clauses.{clause_at, body_at, templates_of}
 use Rattle.openings.proofs.Unfolding.{body_is, sixteen}
-use Rattle.spans.specs.Rounds.{of, Passed, Rounded}
+use Rattle.spans.specs.Rounds.{of, Passed}
 use Rattle.spans.proofs.Relativity.{body_entries_are_relative}
 use Rattle.spans.proofs.Lasting.{lasts_is}
 
@@ -28,32 +30,27 @@ none_yet : (cs : List Clause) → replicate (length cs) None ≡ map {B = Option
 none_yet [] = refl
 none_yet (c ∷ cs) = ap (λ (l : Durations). None ∷ l) (none_yet cs)
 
-module _ (f : File) (sound : Sound f) (D : Durations) where
-  -- one template more
-  pub round_more : (s next : List (Option ℕ)) (k : ℕ) (x : Option ℕ) → k < 16 → Passed f D 0 s → Rounded f D k next → x ≡ of s (body_at f (k + 1)) → Rounded f D (k + 1) (set next k x)
-  round_more s next k x small passed r is =
-      let inside : k < length next = omega (arith, r.0) in (
-        simp length-set r.0,
-        λ j h. elim (dec_le k j) [
-          | yes g ↦ (let e : j ≡ k = omega arith in
-              let here : get_or (set next k x) k None ≡ x = rw get_or-set_same in
-              ap (of (set next k x)) e ∙ here ∙ is ∙ passed.1 (body_at f (k + 1)) (omega arith) ∙ lasts_is D (clause_at f (body_at f (k + 1))) (body_entries_are_relative f sound (k + 1))
-              ∙ sym (ap (λ q. ends D (clause_at f (body_at f (q + 1))) 0) e))
-          | no g ↦ (let ne : j ≢ k = omega arith in
-              let there : get_or (set next k x) j None ≡ get_or next j None = rw get_or-set_other in
-              there ∙ r.1 j (omega arith))
-        ],
-      )
+-- an array of what a closure gives for each index, where its calls leave it as it is
+module _ {F B : Type 0} (G : Mut F (ℕ × Unit {0}) B) (f : F) (of_index : ℕ → B) (step : (i : ℕ) (x : B) (f' : F) → Called G f (i, tt) x f' → (x ≡ of_index i) × (f' ≡ f)) where
+  pub made_by_calls : (ys : List B) (n i : ℕ) → IsFromFnResultFrom G f ys i n → (k : ℕ) (d : B) → i ≤ k → k < i + n → get_or ys k d ≡ of_index k
+  made_by_calls ys zero i calls k d low high = absurd (omega arith)
+  made_by_calls ys (suc n) i (f', x, is, call, rest) k d low high =
+      let here = step i x f' call in
+      elim (dec_le k i) [
+        | yes h ↦ (let same : i ≡ k = omega arith in subst (λ j. get_or ys j d ≡ of_index j) same (is.1 d ∙ here.0))
+        | no h ↦ made_by_calls ys n (i + 1) (subst (λ g. IsFromFnResultFrom G g ys (i + 1) n) here.1 rest) k d (omega arith) (omega arith)
+      ]
 
-pub round_is : (f : File) (D next : Durations) (k : ℕ) → k ≡ 16 → Rounded f D k next → next ≡ round (templates_of f) D
-round_is f D next k e r =
+-- the days of the templates' bodies, told by a pass, are the next durations
+pub round_is : (f : File) → Sound f → (D s next : Durations) → Passed f D s → length next ≡ 16 → ((k : ℕ) → k < 16 → of next k ≡ of s (body_at f (k + 1))) → next ≡ round (templates_of f) D
+round_is f sound D s next passed long each =
     let g : Clause → Option ℕ = λ c. ends D c 0 in
     let many : length (map g (templates_of f)) ≡ 16 = long_map g (templates_of f) ∙ sixteen f in
-    ext_get_or None next (round (templates_of f) D) (r.0 ∙ sym many)
+    ext_get_or None next (round (templates_of f) D) (long ∙ sym many)
     (λ i h.
-    let low : i < k = omega (arith, r.0) in
     let number : i + 1 ≡ suc i = omega arith in
-    r.1 i low ∙ ap (λ q. g (clause_at f (body_at f q))) number
+    each i (omega arith) ∙ ap (λ q. of s (body_at f q)) number
+    ∙ passed.1 (body_at f (suc i)) ∙ lasts_is D (clause_at f (body_at f (suc i))) (body_entries_are_relative f sound (suc i))
     ∙ sym (of_map g refl (templates_of f) i ∙ ap g (body_is f (suc i) (omega arith) (omega arith))))
 
 -- rounds until one changes nothing

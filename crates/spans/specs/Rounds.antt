@@ -1,12 +1,12 @@
 -- What the passes over the entries keep: how many days each lasts from day 0, where templates last as given, and the spans.
-use Rattle.std.specs.Prelude.{◌≡◌, ℕ, ◌+◌, ◌<◌, ◌≤◌, Bool, true, false, cond, ◌||◌, List, length, Some, None, Option, slice_index_or}
+use Rattle.std.specs.Prelude.{◌≡◌, ℕ, ◌+◌, Bool, true, false, cond, ◌||◌, List, count_by, length, Some, None, Option, slice_index_or}
 use Rattle.language.specs.Clauses.{Clause, done, lost, step, choice, both, then, call}
-use Rattle.language.specs.Ends.{earlier, later, after, up_to, reach, Durations, duration, ends}
+use Rattle.language.specs.Ends.{earlier, later, after, up_to, reach, Durations, duration}
 use Rattle.days.specs.Windows.{meant, by_calendar}
 use Rattle.entries.specs.declared.entries.Entry.{Entry}
 use Rattle.entries.specs.declared.entries.Entry.TheVariants as entries
 use Rattle.contract_file.specs.declared.files.File.{File}
-use Rattle.openings.specs.Clauses.{clause_at, body_at}
+use Rattle.openings.specs.Clauses.{clause_at}
 use Rattle.spans.specs.declared.spans.Span.{Span}
 use Rattle.spans.specs.declared.spans.Span.TheVariants.{Never, After, ByDay}
 use Rattle.spans.specs.Spans.{dated, lasting, row_of}
@@ -40,9 +40,9 @@ lasts D (both l r) = later (lasts D l) (lasts D r)
 lasts D (then l r) = following (lasts D l) (lasts D r)
 lasts D (call k args) = following (Some 0) (duration D k)
 
--- The table tells how many days each entry lasts, from one on.
-abbrev pub Passed : File → Durations → ℕ → List (Option ℕ) → Type 0
-Passed f D from s = (length s ≡ 257) × ((i : ℕ) → from ≤ i → of s i ≡ lasts D (clause_at f i))
+-- The table tells how many days each entry lasts.
+abbrev pub Passed : File → Durations → List (Option ℕ) → Type 0
+Passed f D s = (length s ≡ 257) × ((i : ℕ) → of s i ≡ lasts D (clause_at f i))
 
 -- The span at a place of a table.
 abbrev pub span_of : List Span → ℕ → Span
@@ -65,10 +65,10 @@ entry_dated s (entries.Template number body next) = false
 entry_dated s (entries.Condition field test next) = false
 entry_dated s (entries.Argument slot value next) = false
 
--- The table tells the span of each entry, from one on, where entries last as given.
-abbrev pub Told : File → List (Option ℕ) → ℕ → List Span → Type 0
-Told f days from s = (length s ≡ 257) × ((i : ℕ) → from ≤ i → span_of s i ≡ cond (dated (clause_at f i)) (ByDay (row_of f i)) (lasting (of days i)))
+-- The span of an entry, by those of the entries past it: as many rows are given already as there are spans by day.
+abbrev pub entry_span : List Span → Option ℕ → Entry → Span
+entry_span s days e = cond (entry_dated s e) (ByDay (count_by by_day s)) (lasting days)
 
--- The table tells how long each template at a place below `to` lasts, by one more round of calls.
-abbrev pub Rounded : File → Durations → ℕ → Durations → Type 0
-Rounded f D to next = (length next ≡ 16) × ((k : ℕ) → k < to → of next k ≡ ends D (clause_at f (body_at f (k + 1))) 0)
+-- The table tells the span of each entry, where entries last as given.
+abbrev pub Told : File → List (Option ℕ) → List Span → Type 0
+Told f days s = (length s ≡ 257) × ((i : ℕ) → span_of s i ≡ cond (dated (clause_at f i)) (ByDay (row_of f i)) (lasting (of days i)))

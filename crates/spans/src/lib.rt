@@ -6,4 +6,4 @@ mod rounds;
 mod spans;
 
 pub use rounds::entry_spans;
-pub use spans::{Span, span_at};
+pub use spans::{Span, row_count, span_at};

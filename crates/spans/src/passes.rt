@@ -1,34 +1,27 @@
 //! Passes over the entries, from the last to the first: what an entry points to lies above it.
 ghost use Rattle.std.specs.Prelude.{◌≡◌};
-ghost use Rattle.contract_file.specs.Sound.{Sound};
 ghost use Rattle.language.specs.Ends.{duration};
-ghost use Rattle.spans.specs.Rounds.{of, following, entry_lasts, Passed, entry_dated, Told};
+ghost use Rattle.spans.specs.Rounds.{of, following, entry_lasts, Passed, entry_dated, entry_span, Told};
 
-use crate::spans::{Span, span_at};
-use contract_file::{File, MOST_TEMPLATES, PLACES};
+use crate::spans::{Span, row_count, span_at};
+use contract_file::{MOST_TEMPLATES, PLACES, ReadFile};
 use days::{Counted, day_after, earlier, later};
 use entries::Entry;
+use openings::fill_from_last;
 
 /// The days at a place of a table, and none past its end.
 pub(crate) fn days_at(days: &[Option<u32>], place: u16) -> Option<u32>
     ensures { result ≡ of days.now place }
 {
-    if (place as usize) < days.len() {
-        days[place as usize]
-    } else {
-        None
-    }
+    days.get(usize::from(place)).copied().flatten()
 }
 
 /// The duration of the template of a number.
 fn duration(durations: &[Option<u32>; MOST_TEMPLATES], template: u8) -> Option<u32>
     ensures { result ≡ duration durations.now template }
 {
-    if template == 0 {
-        None
-    } else {
-        days_at(durations, template as u16 - 1)
-    }
+    let place = template.checked_sub(1)?;
+    days_at(durations, u16::from(place))
 }
 
 /// So many days and then so many more, if both are known and come to a day that a record may bear.
@@ -59,15 +52,16 @@ fn entry_lasts(
 }
 
 /// How many days each entry lasts, where the templates last as given.
-pub(crate) fn pass(file: &File, durations: &[Option<u32>; MOST_TEMPLATES]) -> [Option<u32>; PLACES]
-    requires { Sound file.now }
-    ensures { Passed file.now durations.now 0 result }
+pub(crate) fn pass(
+    read: &ReadFile,
+    durations: &[Option<u32>; MOST_TEMPLATES],
+) -> [Option<u32>; PLACES]
+    ensures { Passed read.now.file durations.now result }
 {
-    let mut lasts = [None; PLACES];
-    for at in (0..PLACES).rev() {
-        lasts[at] = entry_lasts(file.at(at as u16), &lasts, durations);
-    }
-    lasts
+    let file = read.file();
+    fill_from_last(None, |number, lasts| {
+        entry_lasts(file.at(number), lasts, durations)
+    })
 }
 
 /// Does an entry reach a calendar window? The spans above it tell.
@@ -75,7 +69,7 @@ fn is_dated(entry: Entry, spans: &[Span; PLACES]) -> bool
     ensures { result ≡ entry_dated spans.now «entry» }
 {
     match entry {
-        Entry::Step { window, tail, .. } => matches!(window.counted, Counted::ByCalendar)
+        Entry::Step { window, tail, .. } => window.counted == Counted::ByCalendar
             || span_at(spans, tail).is_by_day(),
         Entry::Choice { left, right } | Entry::Both { left, right } | Entry::Then { left, right } =>
             span_at(spans, left).is_by_day() || span_at(spans, right).is_by_day(),
@@ -83,20 +77,24 @@ fn is_dated(entry: Entry, spans: &[Span; PLACES]) -> bool
     }
 }
 
-/// The span of each entry, by how many days those last that reach no calendar window. The others are given rows.
-pub(crate) fn told(file: &File, lasts: &[Option<u32>; PLACES]) -> [Span; PLACES]
-    requires { Sound file.now }
-    ensures { Told file.now lasts.now 0 result }
+/// The span of an entry that lasts so many days if it reaches no calendar window. Else it is given the next row.
+fn entry_span(entry: Entry, days: Option<u32>, spans: &[Span; PLACES]) -> Span
+    ensures { result ≡ entry_span spans.now days «entry» }
 {
-    let mut spans = [Span::Never; PLACES];
-    let mut rows: u16 = 0;
-    for at in (0..PLACES).rev() {
-        if is_dated(file.at(at as u16), &spans) {
-            spans[at] = Span::ByDay(rows);
-            rows += 1;
-        } else {
-            spans[at] = Span::lasting(lasts[at]);
-        }
+    if is_dated(entry, spans) {
+        Span::ByDay(row_count(spans))
+    } else {
+        Span::from(days)
     }
-    spans
+}
+
+/// The span of each entry, by how many days those last that reach no calendar window. The others are given rows, the last
+/// of them the first.
+pub(crate) fn told(read: &ReadFile, lasts: &[Option<u32>; PLACES]) -> [Span; PLACES]
+    ensures { Told read.now.file lasts.now result }
+{
+    let file = read.file();
+    fill_from_last(Span::Never, |number, spans| {
+        entry_span(file.at(number), days_at(lasts, number), spans)
+    })
 }

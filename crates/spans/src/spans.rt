@@ -1,10 +1,12 @@
 //! How long a clause lasts at the least.
-ghost use Rattle.std.specs.Prelude.{◌≡◌};
+ghost use Rattle.std.specs.Prelude.{◌≡◌, count_by};
 ghost use Rattle.spans.specs.Spans.{lasting};
 ghost use Rattle.spans.specs.Rounds.{by_day, span_of};
 
+use contract_file::PLACES;
+
 /// When a clause can end, from a base day on.
-#[derive(Clone, Copy)]
+#[derive(Clone, Copy, Debug, PartialEq, Eq)]
 pub enum Span {
     /// On no day.
     Never,
@@ -14,25 +16,21 @@ pub enum Span {
     ByDay(u16),
 }
 
-impl Span {
-    /// The span of a clause that lasts so many days.
-    pub(crate) fn lasting(days: Option<u32>) -> Span
-        ensures { result ≡ lasting days }
-    {
-        match days {
-            Some(days) => Span::After(days),
-            None => Span::Never,
-        }
-    }
+impl From<Option<u32>> for Span {
+    ghost from_gives = { λ days span. span ≡ lasting days };
 
+    /// The span of a clause that lasts so many days.
+    fn from(days: Option<u32>) -> Span {
+        days.map_or(Span::Never, Span::After)
+    }
+}
+
+impl Span {
     /// Does the end hang on the base?
     pub(crate) fn is_by_day(self) -> bool
         ensures { result ≡ by_day self }
     {
-        match self {
-            Span::ByDay(_) => true,
-            Span::Never | Span::After(_) => false,
-        }
+        matches!(self, Span::ByDay(_))
     }
 }
 
@@ -40,9 +38,15 @@ impl Span {
 pub fn span_at(spans: &[Span], place: u16) -> Span
     ensures { result ≡ span_of spans.now place }
 {
-    if (place as usize) < spans.len() {
-        spans[place as usize]
-    } else {
-        Span::Never
-    }
+    spans
+        .get(usize::from(place))
+        .copied()
+        .unwrap_or(Span::Never)
+}
+
+/// How many spans have a row.
+pub fn row_count(spans: &[Span; PLACES]) -> u16
+    ensures { result ≡ count_by by_day spans.now }
+{
+    spans.iter().filter(|span| span.is_by_day()).count() as u16
 }

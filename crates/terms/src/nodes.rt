@@ -15,5 +15,6 @@ pub enum Node {
     Follow { clause: u16, row: Row },
 }
 
-/// A term's nodes, in memory of a fixed size.
+/// A term's nodes.
+// Kept as nodes in preorder, with no boxes: the running contract never allocates.
 pub type Table = ArrayVec<Node, MOST_NODES>;

@@ -21,6 +21,7 @@ const ABOVE_TEMPLATES: u8 = MOST_TEMPLATES as u8 + 1;
 
 /// Writes what the clause of an entry opens to, from a row and on a base day. Its bare calls name templates below `level`.
 #[cycle(open_call_open_from)]
+#[tactic(auto, using(crate::proofs::Writing::some_nodes))]
 fn open_from(openings: &Openings, level: u8, at: u16, row: &Row, base: u32, out: &mut Table)
     requires bare { BareBelow level (clause_at openings.now.read.file at) }
     requires room { length out.old.items + nodes (opens openings.now.read.file row.now base at) ≤ 256 }

@@ -1,22 +1,23 @@
-use Rattle.std.proofs.Common.{◌≡◌, ◌-◌, length, sym, ◌∙◌, arith, rules}
+use Rattle.std.proofs.Common.{◌≡◌, rules, length, ap, ◌∙◌, subst}
+use Rattle.contract_file.specs.declared.files.File.{File}
+use Rattle.contract_file.proofs.Facts.{known_sound}
+use Rattle.entries.specs.Parts.{at}
 use Rattle.openings.proofs.Unfolding.{leading}
-use Rattle.spans.proofs.Telling.{few_rows, rows_none, told_none, told_dated, told_undated}
+use Rattle.openings.proofs.Downward.{filled_is}
+use Rattle.spans.specs.declared.spans.Span.TheVariants.{Never}
+use Rattle.spans.specs.Rounds.{of, entry_span, Told}
+use Rattle.spans.proofs.Telling.{all_tell, all_tell_long, entry_span_is, all_told}
 use Rattle.spans.proofs.passes.told.Goals as goal
 
-pub loop-at-init : goal.loop-at-init
-loop-at-init c =
-    let long : length c.args.lasts.now ≡ 257 = search rules in
-    (told_none c.args.file.now (leading _ c.requires) c.args.lasts.now long, rows_none c.args.file.now)
-
-pub overflow_add-rows : goal.overflow_add-rows
-overflow_add-rows c = omega (arith, c.loop-at.invariant.1, few_rows c.args.file.now (257 - c.loop-at.at) c.loop-at.at)
-
-pub loop-at-preserved-then-is_dated : goal.loop-at-preserved-then-is_dated
-loop-at-preserved-then-is_dated c =
-    told_dated c.args.file.now (leading _ c.requires) c.args.lasts.now c.loop-at.spans _ c.loop-at.at c.loop-at.rows c.at.result (omega arith) (omega arith) c.loop-at.invariant.0 c.loop-at.invariant.1
-    c.at.ensures (sym c.is_dated.ensures ∙ c.if-is_dated.true)
-
-pub loop-at-preserved : goal.loop-at-preserved
-loop-at-preserved c =
-    told_undated c.args.file.now (leading _ c.requires) c.args.lasts.now c.loop-at.spans _ c.loop-at.at c.loop-at.rows c.at.result c.lasting.result (omega arith) (omega arith) c.loop-at.invariant.0 c.loop-at.invariant.1
-    c.at.ensures (sym c.is_dated.ensures ∙ c.if-is_dated.false) c.lasting.ensures
+pub returns : goal.returns
+returns c =
+    let f = c.file-file.result.now in
+    let days = c.args.lasts.now in
+    let up = leading f (known_sound f c.file-file.ensures.sound) in
+    let lasts_long : length days ≡ 257 = search rules in
+    let long : length c.fill_from_last.result ≡ 257 = search rules in
+    subst (λ (g : File). Told g days c.fill_from_last.result) c.file-file.ensures.same
+    (all_told f up days lasts_long c.fill_from_last.result (filled_is _ _ Never (all_tell f up days) c.fill_from_last.result (all_tell_long f up days) long c.fill_from_last.ensures
+    (λ i v small given.
+    let is : v ≡ entry_span given.seen.now (of days i) (at f.entries i) = search rules in
+    is ∙ ap (λ s. entry_span s (of days i) (at f.entries i)) given.shows ∙ entry_span_is f up days lasts_long i small)))

@@ -27,48 +27,6 @@ open_call-returns t c =
     let is : body (templates_of f) k ≡ clause_at f c.body-first.result = body_is f k c.requires.named.0 c.requires.named.1 ∙ sym (ap (clause_at f) (c.body-first.ensures ∙ ap (λ g. body_at g k) c.file.ensures.same)) in
     retold f _ _ _ _ (ap (λ x. opened (templates_of f) x c.args.row.now c.args.base) is) c.open_from.ensures
 
-pub open_from-push-requires : goal.open_from-push-requires
-open_from-push-requires t c =
-    let f = c.args.openings.now.read.file in
-    let of = opens f c.args.row.now c.args.base in
-    omega (arith, c.requires.room, some_nodes (of c.args.at))
-
-pub open_from-push-requires-in-Done : goal.open_from-push-requires-in-Done
-open_from-push-requires-in-Done t c =
-    let f = c.args.openings.now.read.file in
-    let of = opens f c.args.row.now c.args.base in
-    omega (arith, c.requires.room, some_nodes (of c.args.at))
-
-pub open_from-push-requires-in-Leaf : goal.open_from-push-requires-in-Leaf
-open_from-push-requires-in-Leaf t c =
-    let f = c.args.openings.now.read.file in
-    let of = opens f c.args.row.now c.args.base in
-    omega (arith, c.requires.room, some_nodes (of c.args.at))
-
-pub open_from-push-requires-in-Choice : goal.open_from-push-requires-in-Choice
-open_from-push-requires-in-Choice t c =
-    let f = c.args.openings.now.read.file in
-    let of = opens f c.args.row.now c.args.base in
-    omega (arith, c.requires.room, some_nodes (of c.args.at))
-
-pub open_from-push-requires-in-Both : goal.open_from-push-requires-in-Both
-open_from-push-requires-in-Both t c =
-    let f = c.args.openings.now.read.file in
-    let of = opens f c.args.row.now c.args.base in
-    omega (arith, c.requires.room, some_nodes (of c.args.at))
-
-pub open_from-push-requires-in-Follow : goal.open_from-push-requires-in-Follow
-open_from-push-requires-in-Follow t c =
-    let f = c.args.openings.now.read.file in
-    let of = opens f c.args.row.now c.args.base in
-    omega (arith, c.requires.room, some_nodes (of c.args.at))
-
-pub open_from-push-requires-in-Skip : goal.open_from-push-requires-in-Skip
-open_from-push-requires-in-Skip t c =
-    let f = c.args.openings.now.read.file in
-    let of = opens f c.args.row.now c.args.base in
-    omega (arith, c.requires.room, some_nodes (of c.args.at))
-
 pub open_from-push-requires-in-Skip-2 : goal.open_from-push-requires-in-Skip-2
 open_from-push-requires-in-Skip-2 t c =
     let f = c.args.openings.now.read.file in

@@ -12,7 +12,7 @@ unwrap-requires c =
 pub invariant_of-result : goal.invariant_of-result
 invariant_of-result c =
     let foreseen = c.args.foreseen in
-    let file = foreseen.openings.read.file in
+    let file = foreseen.prospect.openings.read.file in
     let whole = opened_whole _ _ _ _ _ _ _ c.openings.ensures c.day.ensures c.open_contract.ensures foreseen.small in
     record { whole = some_whole file _ (contract_opened file foreseen.day) foreseen.small whole.1 }
 

@@ -12,12 +12,12 @@ use Rattle.held.proofs.held.Held.take.Goals as goal
 pub hold-requires : goal.hold-requires
 hold-requires g c =
     let self = c.args.self.now in
-    let tree = found self.foreseen.openings.read.file self.table.items self.whole in
+    let tree = found self.foreseen.prospect.openings.read.file self.table.items self.whole in
     record { tree = subst (λ (o : Openings). SomeTerm o.read.file self.table.items 0) (sym c.openings.ensures) (record { term = tree.term; held = tree.whole.0 }) }
 
 pub invariant_of-self : goal.invariant_of-self
 invariant_of-self g c =
     let self = c.args.self.now in
-    let tree = found self.foreseen.openings.read.file self.table.items self.whole in
+    let tree = found self.foreseen.prospect.openings.read.file self.table.items self.whole in
     let replaced = subst (λ (o : Openings). (t : Term) → Holds o.read.file self.table.items 0 t → Replaced o.read.file (residual g.K.Kind.meaning (templates_of o.read.file) t c.args.r.now) self.table.items c.hold.new.table.items c.hold.result) c.openings.ensures c.hold.ensures in
     record { whole = still_whole _ _ _ _ _ (replaced tree.term tree.whole.0) self.whole }

@@ -1,35 +1,29 @@
-use Rattle.std.proofs.Common.{◌≡◌, ℕ, List, ◌++◌, length, take, count_by, sym, ap, ◌∙◌, subst, arith, take_all}
-use lib.Seq.{take-append-le}
+use Rattle.std.proofs.Common.{◌≡◌, List, get_or, ◌∙◌, ◌-◌, ap, subst, arith}
 use Rattle.contract_file.specs.declared.files.File.{File}
+use Rattle.contract_file.specs.Sound.{Sound}
 use Rattle.contract_file.proofs.Facts.{known_sound}
-use Rattle.spans.specs.Spans.{rows_in, spans_of}
-use Rattle.spans.proofs.Telling.{few_rows}
-use Rattle.horizon.specs.Foretelling.{Foretells}
-use Rattle.spans.specs.Rounds.{by_day}
-use Rattle.horizon.proofs.Rows.{rows_are_counted}
+use Rattle.entries.specs.Parts.{at}
+use Rattle.spans.specs.declared.spans.Span.{Span}
+use Rattle.spans.specs.declared.spans.Span.TheVariants.{Never}
+use Rattle.horizon.proofs.Telling.{none_stands, row_stands, no_row_stands}
 use Rattle.horizon.proofs.horizon.Horizon.over.Goals as goal
 
-pub overflow_mul-row_count : goal.overflow_mul-row_count
-overflow_mul-row_count c =
-    let f = c.args.read.now.file in
-    let rows : c.row_count.result ≡ rows_in f 257 0 = c.row_count.ensures ∙ ap (count_by by_day) c.entry_spans-spans.ensures ∙ rows_are_counted f in
-    omega (arith, rows, few_rows f 257 0)
+sound : (f g : File) → f ≡ g → ∥ Sound f ∥₁ → Sound g
+sound f g same known = known_sound g (subst (λ (h : File). ∥ Sound h ∥₁) same known)
 
-pub fill-requires : goal.fill-requires
-fill-requires c = record {
-  sound = known_sound _ c.file.ensures.sound;
-  spans = c.entry_spans-spans.ensures ∙ ap spans_of (sym c.file.ensures.same);
-  long = (let g = c.file.result.now in
-      let rows : c.row_count.result ≡ rows_in g 257 0 = c.row_count.ensures ∙ ap (count_by by_day) (c.entry_spans-spans.ensures ∙ ap spans_of (sym c.file.ensures.same)) ∙ rows_are_counted g in
-      omega (arith, rows, c.deref_mut.ensures.len, c.in_ok-rows.ensures.len));
-}
+pub loop-number-init : goal.loop-number-init
+loop-number-init c =
+    none_stands c.args.read.now.file (sound _ _ c.file-file.ensures.same c.file-file.ensures.sound) c.entry_spans-spans.result c.in_ok-rows.rows.items c.entry_spans-spans.ensures c.in_ok-rows.ensures.items
 
--- a vector whose slice is written anew holds what was written
-refilled : (n : ℕ) (new old : List ℕ) → length new ≡ n → take n (new ++ old) ≡ new
-refilled n new old e = take-append-le n new old (omega arith) ∙ take_all n new (omega arith)
+pub loop-number-preserved-in-Continue-branch-2 : goal.loop-number-preserved-in-Continue-branch-2
+loop-number-preserved-in-Continue-branch-2 c =
+    let same = c.file-file.ensures.same in
+    row_stands c.args.read.now.file (sound _ _ same c.file-file.ensures.sound) c.loop-number.horizon.spans c.loop-number.horizon.rows.items (c.loop-number.number - 1) _ (omega arith) (omega arith) c.loop-number.invariant
+    c.in-ByDay.field-0 c.at.result c.push_row.new.self.spans c.push_row.new.self.rows.items
+    (c.in-ByDay.ensures ∙ ap (λ (s : List Span). get_or s (c.loop-number.number - 1) Never) c.entry_spans-spans.ensures)
+    (c.at.ensures ∙ ap (λ (f : File). at f.entries (c.loop-number.number - 1)) same) c.push_row.ensures.spans c.in_ok-push_row.ensures.row
 
-pub returns : goal.returns
-returns c =
-    let long : length c.fill.new.rows ≡ c.in_ok-rows.rows.len = c.fill.auto.rows ∙ c.deref_mut.ensures.len in
-    let told = subst (λ (f : File). Foretells f c.entry_spans-spans.result c.fill.new.rows) c.file.ensures.same c.fill.ensures in
-    subst (λ (rows : List ℕ). Foretells c.args.read.now.file c.entry_spans-spans.result rows) (sym (refilled _ c.fill.new.rows _ long)) told
+pub loop-number-preserved : goal.loop-number-preserved
+loop-number-preserved c =
+    no_row_stands c.args.read.now.file (sound _ _ c.file-file.ensures.same c.file-file.ensures.sound) c.loop-number.horizon.spans c.loop-number.horizon.rows.items (c.loop-number.number - 1) _ (omega arith) (omega arith) c.loop-number.invariant
+    (λ row h. c.in_default.not-ByDay row (c.span_at.ensures ∙ ap (λ (s : List Span). get_or s (c.loop-number.number - 1) Never) c.entry_spans-spans.ensures ∙ h))

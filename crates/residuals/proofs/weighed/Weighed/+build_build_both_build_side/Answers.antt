@@ -1,5 +1,5 @@
 use Rattle.std.proofs.Common.{◌≡◌, ◌+◌, refl, ap, ◌∙◌, arith}
-use Rattle.language.specs.Terms.{nodes, both_of}
+use Rattle.language.specs.Terms.{nodes}
 use Rattle.openings.specs.Shapes as shapes
 use Rattle.terms.proofs.Writing.{some_nodes, longer, retold, write_lost, write_choice, write_both, write_follow}
 use Rattle.residuals.specs.declared.rests.Side.TheVariants as side
@@ -9,36 +9,6 @@ use Rattle.residuals.specs.Rests.{left_of, side_term}
 use Rattle.residuals.proofs.Copying.{copied}
 use Rattle.residuals.proofs.Resting.{rests, either_written, halved, whole, in_table, left_size, side_size, both_size}
 use Rattle.residuals.proofs.weighed.Weighed.+build_build_both_build_side.Goals as goal
-
-pub build-push-requires : goal.build-push-requires
-build-push-requires t c =
-    let v = c.args.self.now in
-    let x = c.requires.ready in
-    omega (arith, c.requires.room, left_size v c.args.at x, some_nodes (left_of x))
-
-pub build-push-requires-in-Choice : goal.build-push-requires-in-Choice
-build-push-requires-in-Choice t c =
-    let v = c.args.self.now in
-    let x = c.requires.ready in
-    omega (arith, c.requires.room, left_size v c.args.at x, some_nodes (left_of x))
-
-pub build-push-requires-in-Either : goal.build-push-requires-in-Either
-build-push-requires-in-Either t c =
-    let v = c.args.self.now in
-    let x = c.requires.ready in
-    omega (arith, c.requires.room, left_size v c.args.at x, some_nodes (left_of x))
-
-pub build-push-requires-in-Follow : goal.build-push-requires-in-Follow
-build-push-requires-in-Follow t c =
-    let v = c.args.self.now in
-    let x = c.requires.ready in
-    omega (arith, c.requires.room, left_size v c.args.at x, some_nodes (left_of x))
-
-pub build-push-requires-in-Skip : goal.build-push-requires-in-Skip
-build-push-requires-in-Skip t c =
-    let v = c.args.self.now in
-    let x = c.requires.ready in
-    omega (arith, c.requires.room, left_size v c.args.at x, some_nodes (left_of x))
 
 pub build-push-requires-in-Skip-2 : goal.build-push-requires-in-Skip-2
 build-push-requires-in-Skip-2 t c =
@@ -174,22 +144,6 @@ build-returns-in-Skip t c =
     let followed = write_follow _ _ _ _ _ _ _ _ refl c.push-in-Skip-2.ensures.items (c.build-in-Skip.ensures p.part) in
     let clause = c.open_clause-in-Skip.ensures (omega (arith, c.requires.room, left_size v _ x, ap nodes p.is, c.push-in-Skip.ensures.len, longer _ _ _ _ followed)) in
     retold _ _ _ _ _ p.is (write_choice _ _ _ _ _ _ _ c.push-in-Skip.ensures.items followed clause)
-
-pub build_both-push-requires : goal.build_both-push-requires
-build_both-push-requires t c =
-    let v = c.args.self.now in
-    let x = c.requires.ready in
-    let y = c.requires.beside in
-    let size = both_size v c.args.left c.args.right x y in
-    omega (arith, c.requires.room, size, some_nodes (both_of (side_term c.args.left x) (side_term c.args.right y)))
-
-pub build_both-push-requires-in-Both : goal.build_both-push-requires-in-Both
-build_both-push-requires-in-Both t c =
-    let v = c.args.self.now in
-    let x = c.requires.ready in
-    let y = c.requires.beside in
-    let size = both_size v c.args.left c.args.right x y in
-    omega (arith, c.requires.room, size, some_nodes (both_of (side_term c.args.left x) (side_term c.args.right y)))
 
 pub build_both-build_side-requires : goal.build_both-build_side-requires
 build_both-build_side-requires t c =

@@ -1,4 +1,4 @@
--- What a horizon foretells is a fact: what a checked file's type hides can be taken out again.
+-- That ends are foretold is a fact: what a prospect's type hides can be taken out again.
 use Rattle.std.proofs.Common.{◌≡◌, ℕ, suc, List, Some, None, Option, refl, ap, arith}
 use mathlib.Core.Logic.{∥∥₁_elim}
 use mathlib.Core.HLevel.{Π_prop}
@@ -22,5 +22,5 @@ counted_apart (Some a) (Some b) e = ap Some (omega arith)
 day_prop : (x y : Option ℕ) → IsProp (x ≡ y)
 day_prop = ≡_prop (coded_via coded_ℕ counted counted_apart)
 
-pub known_horizon : (f : File) (spans : List Span) (rows : List ℕ) → ∥ Foretells f spans rows ∥₁ → Foretells f spans rows
-known_horizon f spans rows told = ∥∥₁_elim told (Π_prop (λ i. Π_prop (λ base. Π_prop (λ h. day_prop _ _)))) (λ k. k)
+pub known_ends : (f : File) (spans : List Span) (rows : List (Option ℕ)) → ∥ Foretells f spans rows ∥₁ → Foretells f spans rows
+known_ends f spans rows told = ∥∥₁_elim told (Π_prop (λ i. Π_prop (λ base. Π_prop (λ h. day_prop _ _)))) (λ k. k)

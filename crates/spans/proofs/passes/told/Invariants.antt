@@ -1,7 +1,0 @@
-use Rattle.std.proofs.Common.{◌≡◌, ◌-◌}
-use Rattle.spans.specs.Spans.{rows_in}
-use Rattle.spans.specs.Rounds.{Told}
-use Rattle.spans.proofs.passes.told.Given as goal
-
-abbrev pub invariant-loop-at : goal.invariant-loop-at
-invariant-loop-at l = Told l.file l.lasts l.at l.spans × (l.rows ≡ rows_in l.file (257 - l.at) l.at)
