@@ -17,18 +17,17 @@ fn due(heap: Global, held: &Held, day: u32) -> Result<String, AllocError> {
         return String::from_str(heap, "due: nothing\n");
     }
     let mut text = String::new(heap);
-    for leaf in list.chunks_exact(NUMBERS).take(leaves) {
-        if let [entry, first, last] = *leaf {
-            let past = if last < u64::from(day) {
-                ", which is past"
-            } else {
-                ""
-            };
-            writeln!(
-                text,
-                "due: entry {entry}, from day {first} to day {last}{past}"
-            )?;
-        }
+    let (leaves_due, _) = list.as_chunks::<NUMBERS>();
+    for [entry, first, last] in leaves_due.iter().take(leaves) {
+        let past = if *last < u64::from(day) {
+            ", which is past"
+        } else {
+            ""
+        };
+        writeln!(
+            text,
+            "due: entry {entry}, from day {first} to day {last}{past}"
+        )?;
     }
     Ok(text)
 }
