@@ -75,7 +75,7 @@ module _ (f : File) where
   decides_entry : (from : ℕ) (e : Entry) → Decides (entry_leads_test f from e) (EntryLeads f from e)
   decides_entry from Lost = decides_nothing
   decides_entry from Done = decides_nothing
-  decides_entry from (Step c t cs u v) = Decides-and _ _ (decides_leads _ _ _) (decides_ends _ _ _)
+  decides_entry from (Step w t cs) = Decides-and _ _ (decides_leads _ _ _) (decides_ends _ _ _)
   decides_entry from (Choice l r) = decides_sides from l r
   decides_entry from (Both l r) = decides_sides from l r
   decides_entry from (Then l r) = decides_sides from l r
@@ -94,7 +94,7 @@ module _ (f : File) where
   decides_numbered : (i : ℕ) (e : Entry) → Decides (numbered_test f i e) (Numbered f i e)
   decides_numbered i Lost = ((λ _ k b n q. absurd (let z : ◌≡◌ {A = ℕ} 0 1 = cc in omega arith)), (λ _. refl))
   decides_numbered i Done = ((λ _ k b n q. absurd (let z : ◌≡◌ {A = ℕ} 0 1 = cc in omega arith)), (λ _. refl))
-  decides_numbered i (Step c t cs u v) = ((λ _ k b n q. absurd (let z : ◌≡◌ {A = ℕ} 0 1 = cc in omega arith)), (λ _. refl))
+  decides_numbered i (Step w t cs) = ((λ _ k b n q. absurd (let z : ◌≡◌ {A = ℕ} 0 1 = cc in omega arith)), (λ _. refl))
   decides_numbered i (Choice l r) = ((λ _ k b n q. absurd (let z : ◌≡◌ {A = ℕ} 0 1 = cc in omega arith)), (λ _. refl))
   decides_numbered i (Both l r) = ((λ _ k b n q. absurd (let z : ◌≡◌ {A = ℕ} 0 1 = cc in omega arith)), (λ _. refl))
   decides_numbered i (Then l r) = ((λ _ k b n q. absurd (let z : ◌≡◌ {A = ℕ} 0 1 = cc in omega arith)), (λ _. refl))
@@ -112,7 +112,7 @@ decides_never = ((λ e. false≢true e), (λ h. absurd h))
 decides_precedes : (e : Entry) (i : ℕ) → Decides (precedes_test e i) (Precedes e i)
 decides_precedes Lost i = decides_never
 decides_precedes Done i = decides_never
-decides_precedes (Step c t cs u v) i = decides_never
+decides_precedes (Step w t cs) i = decides_never
 decides_precedes (Choice l r) i = decides_never
 decides_precedes (Both l r) i = decides_never
 decides_precedes (Then l r) i = decides_never
@@ -140,7 +140,7 @@ module _ (f : File) where
   decides_rising : (i : ℕ) (e : Entry) → Decides (rising_test f i e) (Rising f i e)
   decides_rising i Lost = decides_nothing
   decides_rising i Done = decides_nothing
-  decides_rising i (Step c t cs u v) = decides_nothing
+  decides_rising i (Step w t cs) = decides_nothing
   decides_rising i (Choice l r) = decides_nothing
   decides_rising i (Both l r) = decides_nothing
   decides_rising i (Then l r) = decides_nothing
@@ -157,7 +157,7 @@ module _ (admits : ℕ → Test → Bool) where
   decides_admitted : (e : Entry) → Decides (admitted_test admits e) (Admitted admits e)
   decides_admitted Lost = decides_nothing
   decides_admitted Done = decides_nothing
-  decides_admitted (Step c t cs u v) = decides_nothing
+  decides_admitted (Step w t cs) = decides_nothing
   decides_admitted (Choice l r) = decides_nothing
   decides_admitted (Both l r) = decides_nothing
   decides_admitted (Then l r) = decides_nothing

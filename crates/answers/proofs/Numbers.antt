@@ -6,7 +6,7 @@ use Rattle.std.proofs.lemmas.Bool.Decides.{nat_tests}
 use Rattle.entries.specs.declared.layout.Fields.{Fields}
 use Rattle.entries.specs.declared.entries.Entry.{Entry}
 use Rattle.entries.specs.declared.entries.Entry.TheVariants.{Lost, Done, Step, Choice, Both, Then, Call, Template, Condition, Argument}
-use Rattle.entries.specs.Layout.{when, within, with_sides, sides_of, with_part, test_of, filling_of, by_tag, fields_of, entry_of}
+use Rattle.entries.specs.Layout.{when, within, with_sides, sides_of, with_part, test_of, filling_of, by_tag, fields_of, entry_of, counted_of}
 use Rattle.entries.specs.Parts.{at}
 use Rattle.contract_file.specs.Files.{count_of, bytes_of, or_lost, placed, table_of}
 use Rattle.contract_file.proofs.Tables.{table_at, table_long}
@@ -15,7 +15,7 @@ use Rattle.contract_file.proofs.Tables.{table_at, table_long}
 abbrev pub Small : Entry → Type 0
 Small Lost = Unit {0}
 Small Done = Unit {0}
-Small (Step calendar tail conditions u v) = Unit {0}
+Small (Step w tail conditions) = Unit {0}
 Small (Choice left right) = Unit {0}
 Small (Both left right) = Unit {0}
 Small (Then left right) = Unit {0}
@@ -46,7 +46,7 @@ module _ (f : Fields) where
   small_tag tag =
       cond_both (eqb tag 1) _ _ SmallIf (λ _. small_when _ Done (λ _. tt)) (λ _.
       cond_both (eqb tag 2) _ _ SmallIf (λ _. small_when _ Lost (λ _. tt)) (λ _.
-      cond_both (eqb tag 3) _ _ SmallIf (λ _. small_when _ (Step (eqb f.k 1) f.a f.b f.u f.v) (λ _. tt)) (λ _.
+      cond_both (eqb tag 3) _ _ SmallIf (λ _. small_part (counted_of f.k) _ (λ c. Step (record { counted = c; first = f.u; last = f.v }) f.a f.b) (λ _. tt)) (λ _.
       cond_both (eqb tag 4) _ _ SmallIf (λ _. small_sides (sides_of f) Choice (λ _ _. tt)) (λ _.
       cond_both (eqb tag 5) _ _ SmallIf (λ _. small_sides (sides_of f) Both (λ _ _. tt)) (λ _.
       cond_both (eqb tag 6) _ _ SmallIf (λ _. small_sides (sides_of f) Then (λ _ _. tt)) (λ _.

@@ -2,6 +2,9 @@
 use Rattle.std.proofs.Common.{◌≡◌, ℕ, zero, suc, ◌+◌, ◌<◌, ◌≤◌, ◌⊎◌, List, get_or, Decides, sym, refl, ap, ◌∙◌, subst, inl, inr, add-one, arith}
 use Rattle.std.proofs.lemmas.Bool.{cases_lt, cases_eq}
 use Rattle.std.proofs.lemmas.Bool.Decides.{Decides-ltb, Decides-and, Decides-like}
+use Rattle.days.specs.declared.windows.Counted.{Counted}
+use Rattle.days.specs.declared.windows.Counted.TheVariants.{FromBase, ByCalendar}
+use Rattle.days.specs.Windows.{by_calendar}
 use Rattle.entries.specs.declared.entries.Entry.{Entry}
 use Rattle.entries.specs.declared.entries.Entry.TheVariants.{Lost, Done, Step, Choice, Both, Then, Call, Template, Condition, Argument}
 use Rattle.entries.specs.Parts.{at}
@@ -19,6 +22,11 @@ use Rattle.openings.proofs.Unfolding.{Leading}
 use Rattle.answers.specs.Computed.{spread, reached_below, reached, call_test, calls_test, window_test, windows_test}
 use Rattle.answers.proofs.Deciding.{decides_nothing, decides_leb, decides_if}
 use Rattle.answers.proofs.Numbers.{Small}
+
+-- a window's days are counted by the calendar
+dated_is : (c : Counted) → Decides (by_calendar c) (c ≡ ByCalendar)
+dated_is FromBase = ((λ e. let z : ◌≡◌ {A = ℕ} 0 1 = cc in absurd (omega arith)), (λ is. let z : ◌≡◌ {A = ℕ} 0 1 = cc in absurd (omega arith)))
+dated_is ByCalendar = ((λ _. refl), (λ _. refl))
 
 module _ (f : File) (up : Leading f) where
   abbrev es : List Entry
@@ -56,7 +64,7 @@ module _ (f : File) (up : Leading f) where
     decides_call : (i : ℕ) → i < 257 → (e : Entry) → at es i ≡ e → Decides (call_test f (reached way.Sides f) i e) (CallRight f i e)
     decides_call i within Lost is = decides_nothing
     decides_call i within Done is = decides_nothing
-    decides_call i within (Step c t cs u v) is = decides_nothing
+    decides_call i within (Step w t cs) is = decides_nothing
     decides_call i within (Choice l r) is = decides_nothing
     decides_call i within (Both l r) is = decides_nothing
     decides_call i within (Then l r) is = decides_nothing
@@ -80,17 +88,17 @@ module _ (f : File) (up : Leading f) where
     decides_window : (i : ℕ) → i < 257 → (e : Entry) → at es i ≡ e → Decides (window_test (reached way.Pointers f) i e) (WindowRight f i e)
     decides_window i within Lost is = decides_nothing
     decides_window i within Done is = decides_nothing
-    decides_window i within (Step c t cs u v) is =
+    decides_window i within (Step w t cs) is =
         let table = lowest_reach way.Pointers in
         let mark = get_or (reached way.Pointers f) i 0 in
-        let there : 0 < i = some i (Step c t cs u v) is (λ q. let z : ◌≡◌ {A = ℕ} 0 1 = cc in omega arith) in
+        let there : 0 < i = some i (Step w t cs) is (λ q. let z : ◌≡◌ {A = ℕ} 0 1 = cc in omega arith) in
         Decides-like _
         (λ h. record { order = h.0.0; limit = h.0.1; apart = λ dated k r. omega (arith, h.1 dated, table.least k i r, reached_small way.Pointers k i r) })
-        (λ w. (
-          (w.order, w.limit),
-          (λ dated. elim (cases_lt mark 256) [ inl lt ↦ absurd (w.apart dated mark (table.real i there within lt)) | inr ge ↦ ge ]),
+        (λ r. (
+          (r.order, r.limit),
+          (λ dated. elim (cases_lt mark 256) [ inl lt ↦ absurd (r.apart dated mark (table.real i there within lt)) | inr ge ↦ ge ]),
         ))
-        (Decides-and _ _ (Decides-and _ _ (decides_leb u v) (decides_leb v 65535)) (decides_if c _ ((λ e. e), (λ e. e)) (decides_leb 256 mark)))
+        (Decides-and _ _ (Decides-and _ _ (decides_leb w.first w.last) (decides_leb w.last 65535)) (decides_if (by_calendar w.counted) _ (dated_is w.counted) (decides_leb 256 mark)))
     decides_window i within (Choice l r) is = decides_nothing
     decides_window i within (Both l r) is = decides_nothing
     decides_window i within (Then l r) is = decides_nothing

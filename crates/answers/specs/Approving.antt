@@ -17,7 +17,7 @@ use Rattle.openings.specs.Clauses.{clause_at, templates_of}
 abbrev pub Admitted : (ℕ → Test → Bool) → Entry → Type 0
 Admitted admits Lost = Unit {0}
 Admitted admits Done = Unit {0}
-Admitted admits (Step calendar tail conditions u v) = Unit {0}
+Admitted admits (Step w tail conditions) = Unit {0}
 Admitted admits (Choice left right) = Unit {0}
 Admitted admits (Both left right) = Unit {0}
 Admitted admits (Then left right) = Unit {0}

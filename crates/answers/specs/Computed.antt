@@ -4,6 +4,7 @@
 use Rattle.std.specs.Prelude.{ℕ, zero, suc, ◌+◌, ◌*◌, Bool, true, false, cond, not, ◌&&◌, ◌||◌, List, [], ◌∷◌, map, length, replicate, is_some, Some, None, Ok, Err, Option, Result, ◌==◌, nat_le, nat_lt, slice_index, slice_set}
 use Rattle.std.specs.List.{range_with_len}
 use Rattle.kinds.specs.declared.fields.Test.{Test}
+use Rattle.days.specs.Windows.{by_calendar}
 use Rattle.entries.specs.declared.parts.Sort.{Sort}
 use Rattle.entries.specs.declared.parts.Sort.TheVariants as sort
 use Rattle.entries.specs.declared.entries.Entry.{Entry}
@@ -58,7 +59,7 @@ module _ (f : File) where
   abbrev pub entry_leads_test : ℕ → Entry → Bool
   entry_leads_test from Lost = true
   entry_leads_test from Done = true
-  entry_leads_test from (Step calendar tail conditions u v) = leads_test from tail sort.Clause && ends_or_leads_test from conditions sort.Condition
+  entry_leads_test from (Step w tail conditions) = leads_test from tail sort.Clause && ends_or_leads_test from conditions sort.Condition
   entry_leads_test from (Choice left right) = sides_test from left right
   entry_leads_test from (Both left right) = sides_test from left right
   entry_leads_test from (Then left right) = sides_test from left right
@@ -77,7 +78,7 @@ module _ (f : File) where
   abbrev pub numbered_test : ℕ → Entry → Bool
   numbered_test i Lost = true
   numbered_test i Done = true
-  numbered_test i (Step calendar tail conditions u v) = true
+  numbered_test i (Step w tail conditions) = true
   numbered_test i (Choice left right) = true
   numbered_test i (Both left right) = true
   numbered_test i (Then left right) = true
@@ -90,7 +91,7 @@ module _ (f : File) where
 abbrev pub precedes_test : Entry → ℕ → Bool
 precedes_test Lost i = false
 precedes_test Done i = false
-precedes_test (Step calendar tail conditions u v) i = false
+precedes_test (Step w tail conditions) i = false
 precedes_test (Choice left right) i = false
 precedes_test (Both left right) i = false
 precedes_test (Then left right) i = false
@@ -109,7 +110,7 @@ module _ (f : File) where
   abbrev pub rising_test : ℕ → Entry → Bool
   rising_test i Lost = true
   rising_test i Done = true
-  rising_test i (Step calendar tail conditions u v) = true
+  rising_test i (Step w tail conditions) = true
   rising_test i (Choice left right) = true
   rising_test i (Both left right) = true
   rising_test i (Then left right) = true
@@ -138,7 +139,7 @@ reached way f = reached_below way f.entries 257
 abbrev pub call_test : File → List ℕ → ℕ → Entry → Bool
 call_test f bare i Lost = true
 call_test f bare i Done = true
-call_test f bare i (Step calendar tail conditions u v) = true
+call_test f bare i (Step w tail conditions) = true
 call_test f bare i (Choice left right) = true
 call_test f bare i (Both left right) = true
 call_test f bare i (Then left right) = true
@@ -154,7 +155,7 @@ calls_test f bare i = call_test f bare i (at f.entries i)
 abbrev pub window_test : List ℕ → ℕ → Entry → Bool
 window_test reach i Lost = true
 window_test reach i Done = true
-window_test reach i (Step calendar tail conditions first last) = nat_le first last && nat_le last 65535 && (not calendar || nat_le 256 (slice_index reach i))
+window_test reach i (Step w tail conditions) = nat_le w.first w.last && nat_le w.last 65535 && (not (by_calendar w.counted) || nat_le 256 (slice_index reach i))
 window_test reach i (Choice left right) = true
 window_test reach i (Both left right) = true
 window_test reach i (Then left right) = true
@@ -170,7 +171,7 @@ windows_test f reach i = window_test reach i (at f.entries i)
 abbrev pub admitted_test : (ℕ → Test → Bool) → Entry → Bool
 admitted_test admits Lost = true
 admitted_test admits Done = true
-admitted_test admits (Step calendar tail conditions u v) = true
+admitted_test admits (Step w tail conditions) = true
 admitted_test admits (Choice left right) = true
 admitted_test admits (Both left right) = true
 admitted_test admits (Then left right) = true

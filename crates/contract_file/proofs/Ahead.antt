@@ -26,7 +26,7 @@ module _ (f : File) (i : ℕ) where
   pub ahead : (way : Way) (e : Entry) → EntryLeads f i e → Ahead (onward way e).0 × Ahead (onward way e).1
   ahead Sides Lost h = nowhere
   ahead Sides Done h = nowhere
-  ahead Sides (Step c t cs u v) h = nowhere
+  ahead Sides (Step w t cs) h = nowhere
   ahead Sides (Choice l r) h = (led h.0, led h.1)
   ahead Sides (Both l r) h = (led h.0, led h.1)
   ahead Sides (Then l r) h = (led h.0, led h.1)
@@ -36,7 +36,7 @@ module _ (f : File) (i : ℕ) where
   ahead Sides (Argument k v n) h = nowhere
   ahead Pointers Lost h = nowhere
   ahead Pointers Done h = nowhere
-  ahead Pointers (Step c t cs u v) h = (led h.0, led_or_none _ _ h.1)
+  ahead Pointers (Step w t cs) h = (led h.0, led_or_none _ _ h.1)
   ahead Pointers (Choice l r) h = (led h.0, led h.1)
   ahead Pointers (Both l r) h = (led h.0, led h.1)
   ahead Pointers (Then l r) h = (led h.0, led h.1)

@@ -9,6 +9,7 @@ use Rattle.entries.specs.contracts.entries.Entry as entry-code
 use Rattle.entries.specs.contracts.parts.Sort as sort-code
 use Rattle.entries.specs.declared.parts.Sort.{Sort}
 use Rattle.entries.specs.declared.entries.Entry.{Entry}
+use Rattle.days.specs.declared.windows.Window.{Window}
 use Rattle.entries.specs.declared.entries.Entry.TheVariants.{Lost, Done, Step, Choice, Both, Then, Call, Template, Condition, Argument}
 use Rattle.entries.specs.Parts.{at, Listed}
 use Rattle.contract_file.specs.declared.files.File.{File}
@@ -20,7 +21,7 @@ use Rattle.contract_file.specs.Sound.{Parsed, Sound}
 listed_fact : (e : Entry) → IsProp (Listed e)
 listed_fact Lost = hlevel props
 listed_fact Done = hlevel props
-listed_fact (Step c t cs u v) = hlevel props
+listed_fact (Step w t cs) = hlevel props
 listed_fact (Choice l r) = hlevel props
 listed_fact (Both l r) = hlevel props
 listed_fact (Then l r) = hlevel props
@@ -52,7 +53,7 @@ module _ (f : File) where
   entry_fact : (from : ℕ) (e : Entry) → IsProp (EntryLeads f from e)
   entry_fact from Lost = hlevel props
   entry_fact from Done = hlevel props
-  entry_fact from (Step c t cs u v) = ×_prop (leads_fact _ _ _) (ends_fact _ _ _)
+  entry_fact from (Step w t cs) = ×_prop (leads_fact _ _ _) (ends_fact _ _ _)
   entry_fact from (Choice l r) = ×_prop (leads_fact _ _ _) (leads_fact _ _ _)
   entry_fact from (Both l r) = ×_prop (leads_fact _ _ _) (leads_fact _ _ _)
   entry_fact from (Then l r) = ×_prop (leads_fact _ _ _) (leads_fact _ _ _)
@@ -64,7 +65,7 @@ module _ (f : File) where
   rising_fact : (i : ℕ) (e : Entry) → IsProp (Rising f i e)
   rising_fact i Lost = hlevel props
   rising_fact i Done = hlevel props
-  rising_fact i (Step c t cs u v) = hlevel props
+  rising_fact i (Step w t cs) = hlevel props
   rising_fact i (Choice l r) = hlevel props
   rising_fact i (Both l r) = hlevel props
   rising_fact i (Then l r) = hlevel props
@@ -79,7 +80,7 @@ module _ (f : File) where
   call_fact : (i : ℕ) (e : Entry) → IsProp (CallRight f i e)
   call_fact i Lost = hlevel props
   call_fact i Done = hlevel props
-  call_fact i (Step c t cs u v) = hlevel props
+  call_fact i (Step w t cs) = hlevel props
   call_fact i (Choice l r) = hlevel props
   call_fact i (Both l r) = hlevel props
   call_fact i (Then l r) = hlevel props
@@ -88,14 +89,14 @@ module _ (f : File) where
   call_fact i (Condition k t n) = hlevel props
   call_fact i (Argument k v n) = hlevel props
 
-  right_window_fact : (i : ℕ) (c : Bool) (u v : ℕ) → IsProp (RightWindow f i c u v)
-  right_window_fact i c u v p q =
+  right_window_fact : (i : ℕ) (w : Window) → IsProp (RightWindow f i w)
+  right_window_fact i w p q =
       λ j. record { order = le_prop p.order q.order j; limit = le_prop p.limit q.limit j; apart = Π_prop (λ _. Π_prop (λ _. ¬_prop)) p.apart q.apart j }
 
   window_fact : (i : ℕ) (e : Entry) → IsProp (WindowRight f i e)
   window_fact i Lost = hlevel props
   window_fact i Done = hlevel props
-  window_fact i (Step c t cs u v) = right_window_fact i c u v
+  window_fact i (Step w t cs) = right_window_fact i w
   window_fact i (Choice l r) = hlevel props
   window_fact i (Both l r) = hlevel props
   window_fact i (Then l r) = hlevel props

@@ -69,7 +69,7 @@ module _ (es : List Entry) where
   pub one_noted : (floors : List ℕ) (i : ℕ) (e : Entry) → 0 < i → at es i ≡ e → Floors es i floors → Floors es (i + 1) (noted e floors)
   one_noted floors i Lost some is f = unchained floors i (λ k p. subst (λ (x : Entry). Precedes x k) is p) f
   one_noted floors i Done some is f = unchained floors i (λ k p. subst (λ (x : Entry). Precedes x k) is p) f
-  one_noted floors i (Step c t cs u v) some is f = unchained floors i (λ k p. subst (λ (x : Entry). Precedes x k) is p) f
+  one_noted floors i (Step w t cs) some is f = unchained floors i (λ k p. subst (λ (x : Entry). Precedes x k) is p) f
   one_noted floors i (Choice l r) some is f = unchained floors i (λ k p. subst (λ (x : Entry). Precedes x k) is p) f
   one_noted floors i (Both l r) some is f = unchained floors i (λ k p. subst (λ (x : Entry). Precedes x k) is p) f
   one_noted floors i (Then l r) some is f = unchained floors i (λ k p. subst (λ (x : Entry). Precedes x k) is p) f
@@ -83,7 +83,7 @@ module _ (f : File) (i : ℕ) (some : 0 < i) where
   led : (j : ℕ) (e : Entry) → EntryLeads f j e → Precedes e i → j < i
   led j Lost h p = absurd p
   led j Done h p = absurd p
-  led j (Step c t cs u v) h p = absurd p
+  led j (Step w t cs) h p = absurd p
   led j (Choice l r) h p = absurd p
   led j (Both l r) h p = absurd p
   led j (Then l r) h p = absurd p

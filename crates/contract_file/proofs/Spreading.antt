@@ -66,7 +66,7 @@ module _ (way : Way) (es : List Entry) where
   unfolding Begins
   begins Lost = inr ((λ _. refl), (λ t b n q. let z : ◌≡◌ {A = ℕ} 0 1 = cc in omega arith))
   begins Done = inr ((λ _. refl), (λ t b n q. let z : ◌≡◌ {A = ℕ} 0 1 = cc in omega arith))
-  begins (Step _ _ _ _ _) = inr ((λ _. refl), (λ t b n q. let z : ◌≡◌ {A = ℕ} 0 1 = cc in omega arith))
+  begins (Step _ _ _) = inr ((λ _. refl), (λ t b n q. let z : ◌≡◌ {A = ℕ} 0 1 = cc in omega arith))
   begins (Choice _ _) = inr ((λ _. refl), (λ t b n q. let z : ◌≡◌ {A = ℕ} 0 1 = cc in omega arith))
   begins (Both _ _) = inr ((λ _. refl), (λ t b n q. let z : ◌≡◌ {A = ℕ} 0 1 = cc in omega arith))
   begins (Then _ _) = inr ((λ _. refl), (λ t b n q. let z : ◌≡◌ {A = ℕ} 0 1 = cc in omega arith))

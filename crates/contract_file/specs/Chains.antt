@@ -24,7 +24,7 @@ Above f i n = (j : ℕ) → Precedes (at f.entries j) i → rank (at f.entries j
 abbrev pub Rising : File → ℕ → Entry → Type 0
 Rising f i Lost = Unit {0}
 Rising f i Done = Unit {0}
-Rising f i (Step calendar tail conditions u v) = Unit {0}
+Rising f i (Step w tail conditions) = Unit {0}
 Rising f i (Choice left right) = Unit {0}
 Rising f i (Both left right) = Unit {0}
 Rising f i (Then left right) = Unit {0}

@@ -1,5 +1,7 @@
 -- What right calls and windows are.
-use Rattle.std.specs.Prelude.{◌≡◌, ℕ, ◌<◌, ◌≤◌, Bool, true}
+use Rattle.std.specs.Prelude.{◌≡◌, ℕ, ◌<◌, ◌≤◌}
+use Rattle.days.specs.declared.windows.Counted.TheVariants.{ByCalendar}
+use Rattle.days.specs.declared.windows.Window.{Window}
 use Rattle.contract_file.specs.declared.reach.Way.TheVariants as way
 use Rattle.entries.specs.declared.entries.Entry.{Entry}
 use Rattle.entries.specs.declared.entries.Entry.TheVariants.{Lost, Done, Step, Choice, Both, Then, Call, Template, Condition, Argument}
@@ -17,7 +19,7 @@ pub record RightCall (f : File) (i template : ℕ) : Type 0 where
 abbrev pub CallRight : File → ℕ → Entry → Type 0
 CallRight f i Lost = Unit {0}
 CallRight f i Done = Unit {0}
-CallRight f i (Step calendar tail conditions u v) = Unit {0}
+CallRight f i (Step w tail conditions) = Unit {0}
 CallRight f i (Choice left right) = Unit {0}
 CallRight f i (Both left right) = Unit {0}
 CallRight f i (Then left right) = Unit {0}
@@ -31,15 +33,15 @@ abbrev pub Calls : File → Question
 Calls f i = CallRight f i (at f.entries i)
 
 -- a step's days, and that no body or what it reaches by pointers is a calendar window
-pub record RightWindow (f : File) (i : ℕ) (calendar : Bool) (first last : ℕ) : Type 0 where
-  pub order : first ≤ last
-  pub limit : last ≤ 65535
-  pub apart : calendar ≡ true → (t : ℕ) → Reached way.Pointers f.entries t i → ⊥
+pub record RightWindow (f : File) (i : ℕ) (w : Window) : Type 0 where
+  pub order : w.first ≤ w.last
+  pub limit : w.last ≤ 65535
+  pub apart : w.counted ≡ ByCalendar → (t : ℕ) → Reached way.Pointers f.entries t i → ⊥
 
 abbrev pub WindowRight : File → ℕ → Entry → Type 0
 WindowRight f i Lost = Unit {0}
 WindowRight f i Done = Unit {0}
-WindowRight f i (Step calendar tail conditions first last) = RightWindow f i calendar first last
+WindowRight f i (Step w tail conditions) = RightWindow f i w
 WindowRight f i (Choice left right) = Unit {0}
 WindowRight f i (Both left right) = Unit {0}
 WindowRight f i (Then left right) = Unit {0}

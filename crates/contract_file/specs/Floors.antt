@@ -12,7 +12,7 @@ raised floors k n = slice_set floors k (max (slice_index floors k) (n + 1))
 abbrev pub noted : Entry → List ℕ → List ℕ
 noted Lost floors = floors
 noted Done floors = floors
-noted (Step calendar tail conditions u v) floors = floors
+noted (Step w tail conditions) floors = floors
 noted (Choice left right) floors = floors
 noted (Both left right) floors = floors
 noted (Then left right) floors = floors

@@ -18,7 +18,7 @@ lowered table k v = slice_set table k (min (slice_index table k) v)
 abbrev pub begun : Entry → List ℕ → List ℕ
 begun Lost table = table
 begun Done table = table
-begun (Step calendar tail conditions u v) table = table
+begun (Step w tail conditions) table = table
 begun (Choice left right) table = table
 begun (Both left right) table = table
 begun (Then left right) table = table

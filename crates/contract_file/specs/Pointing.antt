@@ -25,7 +25,7 @@ module _ (f : File) where
   abbrev pub EntryLeads : ℕ → Entry → Type 0
   EntryLeads from Lost = Unit {0}
   EntryLeads from Done = Unit {0}
-  EntryLeads from (Step calendar tail conditions u v) = Leads from tail sort.Clause × EndsOrLeads from conditions sort.Condition
+  EntryLeads from (Step w tail conditions) = Leads from tail sort.Clause × EndsOrLeads from conditions sort.Condition
   EntryLeads from (Choice left right) = SidesLead from left right
   EntryLeads from (Both left right) = SidesLead from left right
   EntryLeads from (Then left right) = SidesLead from left right

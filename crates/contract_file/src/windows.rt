@@ -11,6 +11,7 @@ ghost use Rattle.contract_file.specs.Pass.{LowestReach};
 use crate::faults::Fault;
 use crate::files::{File, PLACES};
 use crate::reach::{NONE, Way, lowest};
+use days::Counted;
 use entries::Entry;
 use kinds::LAST_DAY;
 
@@ -23,12 +24,9 @@ fn window_right(file: &File, reached: &[u16; PLACES], i: usize, this: Entry) -> 
     ensures { Decides result (WindowRight file.now i this) }
 {
     match this {
-        Entry::Step {
-            calendar,
-            first,
-            last,
-            ..
-        } => { first <= last && last <= LAST_DAY && (!calendar || reached[i] >= NONE) }
+        Entry::Step { window, .. } => window.first <= window.last
+            && window.last <= LAST_DAY
+            && (matches!(window.counted, Counted::FromBase) || reached[i] >= NONE),
         _ => true,
     }
 }

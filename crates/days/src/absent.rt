@@ -10,8 +10,7 @@ pub fn earlier(a: Option<u32>, b: Option<u32>) -> Option<u32>
 {
     match (a, b) {
         (Some(x), Some(y)) => Some(x.min(y)),
-        (Some(x), None) => Some(x),
-        (None, y) => y,
+        (day, None) | (None, day) => day,
     }
 }
 
@@ -26,10 +25,6 @@ pub fn later(a: Option<u32>, b: Option<u32>) -> Option<u32>
 pub fn day_after(base: u32, days: u32) -> Option<u32>
     ensures { result ≡ up_to 65535 (base + days) }
 {
-    let day = u64::from(base) + u64::from(days);
-    if day <= u64::from(LAST_DAY) {
-        Some(day as u32)
-    } else {
-        None
-    }
+    let day = base.checked_add(days)?;
+    (day <= LAST_DAY).then_some(day)
 }

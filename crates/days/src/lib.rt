@@ -5,4 +5,4 @@ mod absent;
 mod windows;
 
 pub use absent::{day_after, earlier, later};
-pub use windows::Window;
+pub use windows::{Counted, Window};

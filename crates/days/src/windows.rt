@@ -2,47 +2,59 @@
 ghost use Rattle.std.specs.Prelude.{◌≡◌};
 ghost use Rattle.language.specs.Clauses.{first, last};
 ghost use Rattle.language.specs.Ends.{reach};
-ghost use Rattle.days.specs.Windows.{meant, within};
+ghost use Rattle.days.specs.Windows.{counted, meant, within};
 
 use kinds::LAST_DAY;
 
-/// The days from `first` to `last`, ends included: by the calendar, or counted from a base day.
-#[derive(Clone, Copy)]
+/// How the days of a window are counted.
+#[derive(Clone, Copy, Debug, PartialEq, Eq)]
+pub enum Counted {
+    /// From a base day.
+    FromBase,
+    /// They are the calendar's own.
+    ByCalendar,
+}
+
+/// The days from `first` to `last`, ends included.
+#[derive(Clone, Copy, Debug, PartialEq, Eq)]
 pub struct Window {
-    pub calendar: bool,
+    pub counted: Counted,
     pub first: u32,
     pub last: u32,
 }
 
+impl Counted {
+    /// The day of a number, by a base day. The sum of two numbers of 32 bits may need 33.
+    fn day(self, base: u32, number: u32) -> u64
+        ensures { result ≡ counted self base number }
+    {
+        match self {
+            Counted::FromBase => u64::from(base) + u64::from(number),
+            Counted::ByCalendar => u64::from(number),
+        }
+    }
+}
+
 impl Window {
-    /// The first day, by a base day. The sum of two numbers of 32 bits may need 33.
+    /// The first day, by a base day.
     pub fn first_day(self, base: u32) -> u64
         ensures { result ≡ first (meant self) base }
     {
-        if self.calendar {
-            u64::from(self.first)
-        } else {
-            u64::from(base) + u64::from(self.first)
-        }
+        self.counted.day(base, self.first)
     }
 
     /// The last day, by a base day.
     pub fn last_day(self, base: u32) -> u64
         ensures { result ≡ last (meant self) base }
     {
-        if self.calendar {
-            u64::from(self.last)
-        } else {
-            u64::from(base) + u64::from(self.last)
-        }
+        self.counted.day(base, self.last)
     }
 
     /// Does a day lie in the window?
     pub fn holds(self, base: u32, day: u32) -> bool
         ensures { result ≡ within (meant self) base day }
     {
-        let day = u64::from(day);
-        self.first_day(base) <= day && day <= self.last_day(base)
+        (self.first_day(base)..=self.last_day(base)).contains(&u64::from(day))
     }
 
     /// The first day in the window that is not before a clock, if there is one that a record may bear.

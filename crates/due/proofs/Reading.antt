@@ -5,7 +5,7 @@ use Rattle.std.proofs.lemmas.List.Sums.{sum_by-append}
 use Rattle.kinds.specs.declared.fields.Conditions.{Conditions}
 use Rattle.language.specs.Clauses.{Window, Clause, step, first, last}
 use Rattle.language.specs.Terms.{Term, Done, Lost, Leaf, Choice, Both, Follow, nodes}
-use Rattle.days.specs.Windows.{window}
+use Rattle.days.specs.Windows.{meant}
 use Rattle.entries.specs.declared.entries.Entry.{Entry}
 use Rattle.entries.specs.declared.entries.Entry.TheVariants as entries
 use Rattle.entries.specs.Parts.{at}
@@ -59,7 +59,7 @@ module _ (f : File) (up : Leading f) where
       by : (x : Entry) → clause_by f (clause_at f) e x ≡ step e w cs tail → numbers (item_by e base x) ≡ e ∷ first w base ∷ last w base ∷ []
       by entries.Lost q = cc
       by entries.Done q = cc
-      by (entries.Step d t c u v) q = (let same : window d u v ≡ w = cc in ap (λ w. e ∷ first w base ∷ last w base ∷ []) same)
+      by (entries.Step days t c) q = (let same : meant days ≡ w = cc in ap (λ w. e ∷ first w base ∷ last w base ∷ []) same)
       by (entries.Choice l r) q = cc
       by (entries.Both l r) q = cc
       by (entries.Then l r) q = cc

@@ -1,7 +1,7 @@
 -- What is due by the nodes of a table: the numbers of its leaves' items, and how they stand in a list. Assumes nothing.
 use Rattle.std.specs.Prelude.{ℕ, ◌+◌, Bool, true, false, List, [], ◌∷◌, ◌++◌, length, drop, slice_set}
 use Rattle.language.specs.Clauses.{first, last}
-use Rattle.days.specs.Windows.{window}
+use Rattle.days.specs.Windows.{meant}
 use Rattle.entries.specs.declared.entries.Entry.{Entry}
 use Rattle.entries.specs.declared.entries.Entry.TheVariants as entries
 use Rattle.entries.specs.Parts.{at}
@@ -17,7 +17,7 @@ Item = ℕ × ℕ × ℕ
 abbrev pub item_by : ℕ → ℕ → Entry → Item
 item_by step base entries.Lost = (step, 0, 0)
 item_by step base entries.Done = (step, 0, 0)
-item_by step base (entries.Step dated tail conditions u v) = (step, first (window dated u v) base, last (window dated u v) base)
+item_by step base (entries.Step w tail conditions) = (step, first (meant w) base, last (meant w) base)
 item_by step base (entries.Choice left right) = (step, 0, 0)
 item_by step base (entries.Both left right) = (step, 0, 0)
 item_by step base (entries.Then left right) = (step, 0, 0)

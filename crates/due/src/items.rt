@@ -3,7 +3,6 @@ ghost use Rattle.std.specs.Prelude.{◌≡◌, ◌+◌, ◌≤◌, length};
 ghost use Rattle.due.specs.Items.{due_item, put};
 
 use contract_file::File;
-use days::Window;
 use entries::Entry;
 
 /// The numbers of an item.
@@ -15,19 +14,7 @@ pub(crate) fn due_item(file: &File, step: u16, base: u32) -> (u16, u64, u64)
 {
     let entry = file.at(step);
     match entry {
-        Entry::Step {
-            calendar,
-            first,
-            last,
-            ..
-        } => {
-            let window = Window {
-                calendar,
-                first,
-                last,
-            };
-            (step, window.first_day(base), window.last_day(base))
-        }
+        Entry::Step { window, .. } => (step, window.first_day(base), window.last_day(base)),
         _ => (step, 0, 0),
     }
 }

@@ -4,6 +4,8 @@ use Rattle.std.proofs.Common.{to_z}
 use Rattle.std.specs.Int.{w32}
 use Rattle.kinds.specs.declared.fields.Test.{Test}
 use Rattle.kinds.specs.declared.fields.Test.TheVariants.{Equals, Between, EqualsSlot, Put, AtLeastSlotPlus, Near}
+use Rattle.days.specs.declared.windows.Counted.{Counted}
+use Rattle.days.specs.declared.windows.Counted.TheVariants.{FromBase, ByCalendar}
 use Rattle.entries.specs.declared.layout.Fields.{Fields}
 use Rattle.kinds.specs.declared.rows.Value.{Value}
 use Rattle.kinds.specs.declared.rows.Value.TheVariants.{Constant, Slot}
@@ -39,9 +41,18 @@ within low high n = nat_le low n && nat_le n high
 abbrev pub nothing_else : Fields → Entry → Option Entry
 nothing_else f e = when (f.k == 0 && f.a == 0 && f.b == 0 && f.next == 0 && f.u == 0 && f.v == 0) e
 
--- a step: k window, a tail, b first condition or 0, u and v first and last day
+-- an entry made of a part, if the part is there and the rest is good
+abbrev pub with_part : {X : Type 0} → Option X → Bool → (X → Entry) → Option Entry
+with_part None good make = None
+with_part (Some x) good make = when good (make x)
+
+-- how a step's days are counted: k = 0 from the base, k = 1 by the calendar
+abbrev pub counted_of : ℕ → Option Counted
+counted_of k = cond (k == 0) (Some FromBase) (cond (k == 1) (Some ByCalendar) None)
+
+-- a step: k how the days are counted, a tail, b first condition or 0, u and v first and last day
 abbrev pub step_of : Fields → Option Entry
-step_of f = when (nat_le f.k 1 && f.next == 0) (Step (f.k == 1) f.a f.b f.u f.v)
+step_of f = with_part (counted_of f.k) (f.next == 0) (λ c. Step (record { counted = c; first = f.u; last = f.v }) f.a f.b)
 
 -- choice, both and then have the same contents: a left, b right
 abbrev pub sides_of : Fields → Option (ℕ × ℕ)
@@ -78,11 +89,6 @@ test_of mode b u v =
     (cond (mode == 5) (when (nat_le b 7 && v == 0) (AtLeastSlotPlus b u))
     (cond (mode == 6) (when (b == 0) (Near (to_z w32 u) v))
     None)))))
-
--- an entry made of a part, if the part is there and the rest is good
-abbrev pub with_part : {X : Type 0} → Option X → Bool → (X → Entry) → Option Entry
-with_part None good make = None
-with_part (Some x) good make = when good (make x)
 
 -- a condition: k field 1 to 4, a mode, next
 abbrev pub condition_of : Fields → Option Entry

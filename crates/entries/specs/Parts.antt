@@ -16,7 +16,7 @@ at es i = slice_index_or es i Lost
 abbrev pub sort_of : Entry → Sort
 sort_of Lost = sort.Clause
 sort_of Done = sort.Clause
-sort_of (Step calendar tail conditions u v) = sort.Clause
+sort_of (Step w tail conditions) = sort.Clause
 sort_of (Choice left right) = sort.Clause
 sort_of (Both left right) = sort.Clause
 sort_of (Then left right) = sort.Clause
@@ -29,7 +29,7 @@ sort_of (Argument slot value next) = sort.Argument
 abbrev pub next_template : Entry → ℕ
 next_template Lost = 0
 next_template Done = 0
-next_template (Step calendar tail conditions u v) = 0
+next_template (Step w tail conditions) = 0
 next_template (Choice left right) = 0
 next_template (Both left right) = 0
 next_template (Then left right) = 0
@@ -42,7 +42,7 @@ next_template (Argument slot value next) = 0
 abbrev pub rank : Entry → ℕ
 rank Lost = 0
 rank Done = 0
-rank (Step calendar tail conditions u v) = 0
+rank (Step w tail conditions) = 0
 rank (Choice left right) = 0
 rank (Both left right) = 0
 rank (Then left right) = 0
@@ -55,7 +55,7 @@ rank (Argument slot value next) = slot
 abbrev pub Precedes : Entry → ℕ → Type 0
 Precedes Lost i = ⊥
 Precedes Done i = ⊥
-Precedes (Step calendar tail conditions u v) i = ⊥
+Precedes (Step w tail conditions) i = ⊥
 Precedes (Choice left right) i = ⊥
 Precedes (Both left right) i = ⊥
 Precedes (Then left right) i = ⊥
@@ -68,7 +68,7 @@ Precedes (Argument slot value next) i = next ≡ i
 abbrev pub sides : Entry → ℕ × ℕ
 sides Lost = (0, 0)
 sides Done = (0, 0)
-sides (Step calendar tail conditions u v) = (0, 0)
+sides (Step w tail conditions) = (0, 0)
 sides (Choice left right) = (left, right)
 sides (Both left right) = (left, right)
 sides (Then left right) = (left, right)
@@ -81,7 +81,7 @@ sides (Argument slot value next) = (0, 0)
 abbrev pub pointers : Entry → ℕ × ℕ
 pointers Lost = (0, 0)
 pointers Done = (0, 0)
-pointers (Step calendar tail conditions u v) = (tail, conditions)
+pointers (Step w tail conditions) = (tail, conditions)
 pointers (Choice left right) = (left, right)
 pointers (Both left right) = (left, right)
 pointers (Then left right) = (left, right)
@@ -94,7 +94,7 @@ pointers (Argument slot value next) = (next, 0)
 abbrev pub Listed : Entry → Type 0
 Listed Lost = Unit {0}
 Listed Done = Unit {0}
-Listed (Step calendar tail conditions u v) = Unit {0}
+Listed (Step w tail conditions) = Unit {0}
 Listed (Choice left right) = Unit {0}
 Listed (Both left right) = Unit {0}
 Listed (Then left right) = Unit {0}

@@ -1,4 +1,5 @@
 //! What an entry of a contract file is.
+use days::Window;
 use kinds::{Test, Value};
 
 /// An entry. A pointer is the number of another entry, and 0 is none.
@@ -11,13 +12,10 @@ pub enum Entry {
     Done,
     /// One record within a window, and then the tail.
     Step {
-        /// The days are the calendar's own; otherwise they count from the base day.
-        calendar: bool,
+        window: Window,
         tail: u16,
         /// The first condition of a chain, or 0.
         conditions: u16,
-        first: u32,
-        last: u32,
     },
     /// One of two sides.
     Choice {

@@ -1,9 +1,10 @@
 //! How the sixteen bytes of an entry are read: the tag in front, the rest by that tag.
 ghost use Rattle.std.specs.Prelude.{◌≡◌, length};
 ghost use Rattle.entries.specs.Parts.{Listed, ListedIf, TestIf, ValueIf};
-ghost use Rattle.entries.specs.Layout.{two, four, fields_of, nothing_else, step_of, sides_of, choice_of, both_of, then_of, call_of, template_of, test_of, condition_of, filling_of, argument_of, tagged, entry_of};
+ghost use Rattle.entries.specs.Layout.{two, four, fields_of, nothing_else, counted_of, step_of, sides_of, call_of, template_of, test_of, condition_of, filling_of, argument_of, tagged, entry_of};
 
 use crate::entries::Entry;
+use days::{Counted, Window};
 use kinds::{Test, Value};
 
 /// How many bytes an entry has.
@@ -13,14 +14,14 @@ pub const ENTRY_BYTES: usize = 16;
 pub fn two_bytes(high: u8, low: u8) -> u16
     ensures { result ≡ two high low }
 {
-    high as u16 * 256 + low as u16
+    u16::from_be_bytes([high, low])
 }
 
 /// Four bytes, the high one first.
 fn four_bytes(a: u8, b: u8, c: u8, d: u8) -> u32
     ensures { result ≡ four a b c d }
 {
-    two_bytes(a, b) as u32 * 65536 + two_bytes(c, d) as u32
+    u32::from_be_bytes([a, b, c, d])
 }
 
 /// What stands behind a tag.
@@ -69,24 +70,31 @@ fn plain(f: Fields, empty: Entry) -> Option<Entry>
     }
 }
 
+/// How a step's days are counted: 1 for the calendar, 0 for a base.
+fn counted(k: u8) -> Option<Counted>
+    ensures { result ≡ counted_of k }
+{
+    match k {
+        0 => Some(Counted::FromBase),
+        1 => Some(Counted::ByCalendar),
+        _ => None,
+    }
+}
+
 fn step(f: Fields) -> Option<Entry>
     ensures value { result ≡ step_of f }
     ensures listed { ListedIf result }
 {
+    let window = Window {
+        counted: counted(f.k)?,
+        first: f.u,
+        last: f.v,
+    };
     match f {
-        Fields {
-            k: k @ 0..=1,
-            a,
-            b,
-            next: 0,
-            u,
-            v,
-        } => Some(Entry::Step {
-            calendar: k == 1,
+        Fields { a, b, next: 0, .. } => Some(Entry::Step {
+            window,
             tail: a,
             conditions: b,
-            first: u,
-            last: v,
         }),
         _ => None,
     }
@@ -107,30 +115,6 @@ fn sides(f: Fields) -> Option<(u16, u16)>
         } => Some((a, b)),
         _ => None,
     }
-}
-
-fn choice(f: Fields) -> Option<Entry>
-    ensures value { result ≡ choice_of f }
-    ensures listed { ListedIf result }
-{
-    let (left, right) = sides(f)?;
-    Some(Entry::Choice { left, right })
-}
-
-fn both(f: Fields) -> Option<Entry>
-    ensures value { result ≡ both_of f }
-    ensures listed { ListedIf result }
-{
-    let (left, right) = sides(f)?;
-    Some(Entry::Both { left, right })
-}
-
-fn then(f: Fields) -> Option<Entry>
-    ensures value { result ≡ then_of f }
-    ensures listed { ListedIf result }
-{
-    let (left, right) = sides(f)?;
-    Some(Entry::Then { left, right })
 }
 
 fn call(f: Fields) -> Option<Entry>
@@ -247,9 +231,9 @@ fn by_tag(bytes: &[u8]) -> Option<Entry>
         [1, rest @ ..] => plain(behind(rest), Entry::Done),
         [2, rest @ ..] => plain(behind(rest), Entry::Lost),
         [3, rest @ ..] => step(behind(rest)),
-        [4, rest @ ..] => choice(behind(rest)),
-        [5, rest @ ..] => both(behind(rest)),
-        [6, rest @ ..] => then(behind(rest)),
+        [4, rest @ ..] => sides(behind(rest)).map(|(left, right)| Entry::Choice { left, right }),
+        [5, rest @ ..] => sides(behind(rest)).map(|(left, right)| Entry::Both { left, right }),
+        [6, rest @ ..] => sides(behind(rest)).map(|(left, right)| Entry::Then { left, right }),
         [7, rest @ ..] => call(behind(rest)),
         [8, rest @ ..] => template(behind(rest)),
         [9, rest @ ..] => condition(behind(rest)),

@@ -5,7 +5,7 @@ ghost use Rattle.entries.specs.Parts.{sort_of, next_template, sides, pointers};
 use crate::entries::Entry;
 
 /// What a pointer may ask of the entry that it leads to.
-#[derive(Clone, Copy, PartialEq)]
+#[derive(Clone, Copy, Debug, PartialEq, Eq)]
 pub enum Sort {
     Clause,
     Template,

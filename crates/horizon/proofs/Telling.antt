@@ -6,7 +6,7 @@ use Rattle.language.specs.Clauses.{Clause}
 use Rattle.language.specs.Ends.{earlier, later, after, up_to, reach, Durations, ends, durations}
 use Rattle.language.proofs.Days.{Attained, up_to_yes, up_to_no, at_weaker, at_reach}
 use Rattle.language.proofs.Shifts.{shift, ends_range, ends_from_zero}
-use Rattle.days.specs.Windows.{window}
+use Rattle.days.specs.Windows.{meant, within}
 use Rattle.entries.specs.declared.entries.Entry.{Entry}
 use Rattle.entries.specs.declared.entries.Entry.TheVariants as entries
 use Rattle.entries.specs.Parts.{at}
@@ -101,9 +101,9 @@ module _ (f : File) (sound : Sound f) where
   by_its_parts : (rows : List ℕ) (i base : ℕ) → base ≤ 65535 → Filled f (spans_of f) rows (i + 1) → (e : Entry) → EntryLeads f i e → dated (clause_by f (clause_at f) i e) ≡ true → entry_end (spans_of f) rows base e ≡ ends D (clause_by f (clause_at f) i e) base
   by_its_parts rows i base b told entries.Lost p d = refl
   by_its_parts rows i base b told entries.Done p d = refl
-  by_its_parts rows i base b told (entries.Step cal tail cs u v) p d =
-      same_after (reach (window cal u v) base base) (end_by (spans_of f) rows tail) (ends D (clause_at f tail))
-      (at_weaker (reach (window cal u v) base base) _ (λ d. d ≤ 65535) (at_reach (window cal u v) base base) (λ d q. q.3))
+  by_its_parts rows i base b told (entries.Step w tail cs) p d =
+      same_after (reach (meant w) base base) (end_by (spans_of f) rows tail) (ends D (clause_at f tail))
+      (at_weaker (reach (meant w) base base) _ (λ d. d ≤ 65535) (at_reach (meant w) base base) (λ d q. q.3))
       (λ day h. told tail day (omega (arith, p.0.up)) h)
   by_its_parts rows i base b told (entries.Choice l r) p d = ap₂ earlier (told l base (omega (arith, p.0.up)) b) (told r base (omega (arith, p.1.up)) b)
   by_its_parts rows i base b told (entries.Both l r) p d = ap₂ later (told l base (omega (arith, p.0.up)) b) (told r base (omega (arith, p.1.up)) b)

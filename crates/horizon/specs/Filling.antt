@@ -1,7 +1,7 @@
 -- What filling the rows keeps: which ends are told, and how an entry's end comes from those of its parts. What is foretold does not speak of it.
 use Rattle.std.specs.Prelude.{◌≡◌, ℕ, ◌<◌, ◌≤◌, ◌⊎◌, List, Some, None, Option}
 use Rattle.language.specs.Ends.{earlier, later, after, reach, ends, durations}
-use Rattle.days.specs.Windows.{window}
+use Rattle.days.specs.Windows.{meant}
 use Rattle.entries.specs.declared.entries.Entry.{Entry}
 use Rattle.entries.specs.declared.entries.Entry.TheVariants.{Lost, Done, Step, Choice, Both, Then, Call, Template, Condition, Argument}
 use Rattle.contract_file.specs.declared.files.File.{File}
@@ -13,7 +13,7 @@ use Rattle.horizon.specs.Foretelling.{end_by}
 abbrev pub entry_end : List Span → List ℕ → ℕ → Entry → Option ℕ
 entry_end spans rows base Lost = None
 entry_end spans rows base Done = Some base
-entry_end spans rows base (Step dated tail conditions first last) = after (reach (window dated first last) base base) (end_by spans rows tail)
+entry_end spans rows base (Step w tail conditions) = after (reach (meant w) base base) (end_by spans rows tail)
 entry_end spans rows base (Choice left right) = earlier (end_by spans rows left base) (end_by spans rows right base)
 entry_end spans rows base (Both left right) = later (end_by spans rows left base) (end_by spans rows right base)
 entry_end spans rows base (Then left right) = after (end_by spans rows left base) (end_by spans rows right)

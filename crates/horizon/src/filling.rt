@@ -9,7 +9,7 @@ ghost use Rattle.horizon.specs.Filling.{entry_end, Filled};
 
 use crate::lookup::{DAYS, NEVER, end_at};
 use contract_file::{File, PLACES};
-use days::{Window, earlier, later};
+use days::{earlier, later};
 use entries::Entry;
 use spans::Span;
 
@@ -32,18 +32,7 @@ fn entry_end(entry: Entry, spans: &[Span; PLACES], rows: &[u32], base: u32) -> O
 {
     match entry {
         Entry::Done => Some(base),
-        Entry::Step {
-            calendar,
-            tail,
-            first,
-            last,
-            ..
-        } => {
-            let window = Window {
-                calendar,
-                first,
-                last,
-            };
+        Entry::Step { window, tail, .. } => {
             let day = window.reach(base, base)?;
             end_at(spans, rows, tail, day)
         }

@@ -25,7 +25,7 @@ module _ (f : File) (sound : Sound f) where
   bare_by : (k i : ℕ) (to : ℕ → Clause) → Bare es k i → ((l : ℕ) → Bare es k l → BareBelow k (to l)) → (e : Entry) → at es i ≡ e → EntryLeads f i e → CallRight f i e → BareBelow k (clause_by f to i e)
   bare_by k i to bare rest Lost is p c = tt
   bare_by k i to bare rest Done is p c = tt
-  bare_by k i to bare rest (Step d t cs u v) is p c = tt
+  bare_by k i to bare rest (Step w t cs) is p c = tt
   bare_by k i to bare rest (Choice l r) is p c = (
     rest l (further i l bare (rw is (omega (arith, p.0.up), inl refl))),
     rest r (further i r bare (rw is (omega (arith, p.1.up), inr refl))),
@@ -52,7 +52,7 @@ module _ (f : File) (sound : Sound f) where
   next_up : (i : ℕ) (e : Entry) → EntryLeads f i e → 0 < next_template e → i < next_template e
   next_up i Lost p h = absurd (omega arith)
   next_up i Done p h = absurd (omega arith)
-  next_up i (Step d t cs u v) p h = absurd (omega arith)
+  next_up i (Step w t cs) p h = absurd (omega arith)
   next_up i (Choice l r) p h = absurd (omega arith)
   next_up i (Both l r) p h = absurd (omega arith)
   next_up i (Then l r) p h = absurd (omega arith)
@@ -110,7 +110,7 @@ module _ (f : File) (sound : Sound f) where
   body_bare : (k : ℕ) → 0 < k → (e : Entry) → at es (chain f k) ≡ e → BareBelow k (clause_at f (body_of e))
   body_bare k some Lost is = nothing k
   body_bare k some Done is = nothing k
-  body_bare k some (Step d t cs u v) is = nothing k
+  body_bare k some (Step w t cs) is = nothing k
   body_bare k some (Choice l r) is = nothing k
   body_bare k some (Both l r) is = nothing k
   body_bare k some (Then l r) is = nothing k

@@ -48,7 +48,7 @@ module _ (f : File) (up : Leading f) (calls : List Shape) where
       → entry_shape s calls e ≡ clause_shape calls (clause_by f (clause_at f) i e)
   entry_is s i h entries.Lost p = refl
   entry_is s i h entries.Done p = refl
-  entry_is s i h (entries.Step d t cs u v) p = refl
+  entry_is s i h (entries.Step w t cs) p = refl
   entry_is s i h (entries.Choice l r) p = ap₂ choice_shape (h l p.0.up) (h r p.1.up)
   entry_is s i h (entries.Both l r) p = ap₂ both_shape (h l p.0.up) (h r p.1.up)
   entry_is s i h (entries.Then l r) p = ap₂ then_shape (h l p.0.up) (h r p.1.up)

@@ -11,13 +11,13 @@ use Rattle.contract_file.specs.Asking.{Passed}
 use Rattle.contract_file.specs.Pointing.{EntryLeads, Pointers}
 use Rattle.contract_file.specs.Sound.{Sound}
 use Rattle.openings.specs.Clauses.{conditions_at, clause_by, clause_of, clause_at, body_at, templates_of}
-use Rattle.days.specs.Windows.{window}
+use Rattle.days.specs.Windows.{meant}
 
 -- the clause of an entry looks only at what the entry points to, which lies above it
 by_same : (f : File) (a b : ℕ → Clause) (i : ℕ) → ((l : ℕ) → i < l → l ≤ f.count → a l ≡ b l) → (e : Entry) → EntryLeads f i e → clause_by f a i e ≡ clause_by f b i e
 by_same f a b i h Lost p = refl
 by_same f a b i h Done p = refl
-by_same f a b i h (Step d tail cs u v) p = ap (step i (window d u v) (conditions_at f cs)) (h tail p.0.up p.0.there)
+by_same f a b i h (Step w tail cs) p = ap (step i (meant w) (conditions_at f cs)) (h tail p.0.up p.0.there)
 by_same f a b i h (Choice l r) p = ap₂ choice (h l p.0.up p.0.there) (h r p.1.up p.1.there)
 by_same f a b i h (Both l r) p = ap₂ both (h l p.0.up p.0.there) (h r p.1.up p.1.there)
 by_same f a b i h (Then l r) p = ap₂ then (h l p.0.up p.0.there) (h r p.1.up p.1.there)

@@ -6,7 +6,7 @@ use Rattle.kinds.specs.declared.fields.Test.{Test}
 use Rattle.kinds.specs.declared.fields.Conditions.{Conditions}
 use Rattle.kinds.specs.Rows.{Arguments}
 use Rattle.language.specs.Clauses.{Clause, done, lost, step, choice, both, then, call}
-use Rattle.days.specs.Windows.{window}
+use Rattle.days.specs.Windows.{meant}
 use Rattle.entries.specs.declared.entries.Entry.{Entry}
 use Rattle.entries.specs.declared.entries.Entry.TheVariants.{Lost, Done, Step, Choice, Both, Then, Call, Template, Condition, Argument}
 use Rattle.entries.specs.Parts.{at}
@@ -17,7 +17,7 @@ use Rattle.contract_file.specs.Chains.{chain}
 abbrev pub gathered_by : (ℕ → List (Option Test) → List (Option Test)) → Entry → List (Option Test) → List (Option Test)
 gathered_by rest Lost tests = tests
 gathered_by rest Done tests = tests
-gathered_by rest (Step dated tail conditions first last) tests = tests
+gathered_by rest (Step w tail conditions) tests = tests
 gathered_by rest (Choice left right) tests = tests
 gathered_by rest (Both left right) tests = tests
 gathered_by rest (Then left right) tests = tests
@@ -37,7 +37,7 @@ conditions_at f i = record { tests = gathered f 4 i (replicate 4 None) }
 abbrev pub listed_by : (ℕ → Arguments) → Entry → Arguments
 listed_by rest Lost = []
 listed_by rest Done = []
-listed_by rest (Step dated tail conditions first last) = []
+listed_by rest (Step w tail conditions) = []
 listed_by rest (Choice left right) = []
 listed_by rest (Both left right) = []
 listed_by rest (Then left right) = []
@@ -57,7 +57,7 @@ arguments_at f i = listed_from f 8 i
 abbrev pub clause_by : File → (ℕ → Clause) → ℕ → Entry → Clause
 clause_by f to i Lost = lost
 clause_by f to i Done = done
-clause_by f to i (Step dated tail conditions first last) = step i (window dated first last) (conditions_at f conditions) (to tail)
+clause_by f to i (Step w tail conditions) = step i (meant w) (conditions_at f conditions) (to tail)
 clause_by f to i (Choice left right) = choice (to left) (to right)
 clause_by f to i (Both left right) = both (to left) (to right)
 clause_by f to i (Then left right) = then (to left) (to right)
@@ -79,7 +79,7 @@ clause_at f i = clause_of f 257 i
 abbrev pub body_of : Entry → ℕ
 body_of Lost = 0
 body_of Done = 0
-body_of (Step dated tail conditions first last) = 0
+body_of (Step w tail conditions) = 0
 body_of (Choice left right) = 0
 body_of (Both left right) = 0
 body_of (Then left right) = 0

@@ -14,7 +14,7 @@ of shapes i = slice_index_or shapes i lost_shape
 abbrev pub entry_shape : List Shape → List Shape → Entry → Shape
 entry_shape s calls entries.Lost = lost_shape
 entry_shape s calls entries.Done = done_shape
-entry_shape s calls (entries.Step dated tail conditions first last) = leaf_shape
+entry_shape s calls (entries.Step w tail conditions) = leaf_shape
 entry_shape s calls (entries.Choice left right) = choice_shape (of s left) (of s right)
 entry_shape s calls (entries.Both left right) = both_shape (of s left) (of s right)
 entry_shape s calls (entries.Then left right) = then_shape (of s left) (of s right)

@@ -7,7 +7,7 @@ use Rattle.language.specs.Terms.{Term, Done, Lost, Leaf, Choice, Both, Follow}
 use Rattle.language.specs.Ends.{earlier, later, after, reach, Durations, durations, ends, now_or, next_end}
 use Rattle.language.proofs.Days.{Attained, at_weaker, at_reach}
 use Rattle.language.proofs.Shifts.{Within, next_end_range}
-use Rattle.days.specs.Windows.{window}
+use Rattle.days.specs.Windows.{meant}
 use Rattle.entries.specs.declared.entries.Entry.{Entry}
 use Rattle.entries.specs.declared.entries.Entry.TheVariants as entries
 use Rattle.entries.specs.Parts.{at}
@@ -72,8 +72,8 @@ module _ (f : File) (h : Horizon) (told : Foretold f h) where
       by : (x : Entry) → clause_by f (clause_at f) e x ≡ step e w cs tail → leaf_end h base clock x ≡ after (reach w base clock) (ends D tail)
       by entries.Lost q = cc
       by entries.Done q = cc
-      by (entries.Step d t c u v) q =
-          let same : window d u v ≡ w = cc in
+      by (entries.Step days t c) q =
+          let same : meant days ≡ w = cc in
           let there : clause_at f t ≡ tail = cc in
           ap (λ w. after (reach w base clock) (horizon_end h t)) same
           ∙ after_same (reach w base clock) (horizon_end h t) (ends D tail) (at_weaker (reach w base clock) _ InTime (at_reach w base clock) (λ d q. q.3)) (λ d in_time. told t d in_time ∙ ap (λ c. ends D c d) there)

@@ -2,7 +2,7 @@
 use Rattle.std.specs.Prelude.{◌≡◌, ℕ, ◌+◌, true, false, cond, ◌&&◌, ◌||◌, List, Some, None, vec_items, Option}
 use Rattle.language.specs.Terms.{Term, may_end, nodes}
 use Rattle.language.specs.Ends.{earlier, later, after, reach, durations, next_end}
-use Rattle.days.specs.Windows.{window}
+use Rattle.days.specs.Windows.{meant}
 use Rattle.entries.specs.declared.entries.Entry.{Entry}
 use Rattle.entries.specs.declared.entries.Entry.TheVariants.{Lost, Done, Step, Choice, Both, Then, Call, Template, Condition, Argument}
 use Rattle.entries.specs.Parts.{at}
@@ -34,7 +34,7 @@ end_of o clock = cond o.ends (Some clock) o.next
 abbrev pub leaf_end : Horizon → ℕ → ℕ → Entry → Option ℕ
 leaf_end h base clock Lost = None
 leaf_end h base clock Done = None
-leaf_end h base clock (Step dated tail conditions u v) = after (reach (window dated u v) base clock) (horizon_end h tail)
+leaf_end h base clock (Step w tail conditions) = after (reach (meant w) base clock) (horizon_end h tail)
 leaf_end h base clock (Choice left right) = None
 leaf_end h base clock (Both left right) = None
 leaf_end h base clock (Then left right) = None

@@ -5,7 +5,7 @@ ghost use Rattle.entries.specs.Parts.{at};
 ghost use Rattle.outlook.specs.Outlooks.{horizon_end, lost_outlook, done_outlook, leaf_end, leaf_outlook, choice_outlook, both_outlook, follow_outlook, end_of};
 
 use contract_file::File;
-use days::{Window, earlier, later};
+use days::{earlier, later};
 use entries::Entry;
 use horizon::Horizon;
 
@@ -99,20 +99,7 @@ fn leaf_end(file: &File, horizon: &Horizon, step: u16, base: u32, clock: u32) ->
 {
     let entry = file.at(step);
     match entry {
-        Entry::Step {
-            calendar,
-            tail,
-            first,
-            last,
-            ..
-        } => {
-            let window = Window {
-                calendar,
-                first,
-                last,
-            };
-            end_after(window.reach(base, clock), horizon, tail)
-        }
+        Entry::Step { window, tail, .. } => end_after(window.reach(base, clock), horizon, tail),
         _ => None,
     }
 }

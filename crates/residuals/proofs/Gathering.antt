@@ -30,7 +30,7 @@ module _ (f : File) (tests : List (Option Test)) (i : ℕ) where
         not_gathered : (rest : ℕ → List (Option Test) → List (Option Test)) (e : Entry) → at f.entries i ≡ e → gathered_by rest e tests ≡ tests
         not_gathered rest Lost h = refl
         not_gathered rest Done h = refl
-        not_gathered rest (Step d t cs u v) h = refl
+        not_gathered rest (Step w t cs) h = refl
         not_gathered rest (Choice l r) h = refl
         not_gathered rest (Both l r) h = refl
         not_gathered rest (Then l r) h = refl

@@ -8,7 +8,7 @@ use Rattle.kinds.specs.Meaning.{Meaning}
 use Rattle.language.specs.Clauses.{Window, Clause, step}
 use Rattle.language.specs.Terms.{Term, Done, Lost, Leaf, Choice, Both, Follow, nodes, choice_of, both_of, then_of, opened}
 use Rattle.language.specs.Residuals.{after_leaf, met_row, residual}
-use Rattle.days.specs.Windows.{window}
+use Rattle.days.specs.Windows.{meant}
 use Rattle.entries.specs.declared.entries.Entry.{Entry}
 use Rattle.entries.specs.declared.entries.Entry.TheVariants as entries
 use Rattle.entries.specs.Parts.{at}
@@ -48,8 +48,8 @@ module _ {R : Type 0} (K : Meaning R) (m : Marked) (r : R) (f : File) (same : f 
           → opened_if m (leaf_mark K (file_of m) r row base x) ≡ after_leaf (templates_of (file_of m)) (met_row K w cs row base r) tail (K.day r)
       by entries.Lost q = cc
       by entries.Done q = cc
-      by (entries.Step d t c u v) q =
-          let when : window d u v ≡ w = cc in
+      by (entries.Step days t c) q =
+          let when : meant days ≡ w = cc in
           let asks : conditions_at (file_of m) c ≡ cs = cc in
           let next : clause_at (file_of m) t ≡ tail = cc in
           goes_on t tail _ next ∙ ap₂ (λ x y. after_leaf (templates_of (file_of m)) (met_row K x y row base r) tail (K.day r)) when asks

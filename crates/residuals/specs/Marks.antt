@@ -3,7 +3,7 @@ use Rattle.std.specs.Prelude.{ℕ, Some, None, Option}
 use Rattle.kinds.specs.Rows.{Row}
 use Rattle.kinds.specs.Meaning.{Meaning}
 use Rattle.language.specs.Residuals.{met_row}
-use Rattle.days.specs.Windows.{window}
+use Rattle.days.specs.Windows.{meant}
 use Rattle.entries.specs.declared.entries.Entry.{Entry}
 use Rattle.entries.specs.declared.entries.Entry.TheVariants as entries
 use Rattle.entries.specs.Parts.{at}
@@ -23,7 +23,7 @@ module _ {R : Type 0} (K : Meaning R) (f : File) (r : R) where
   abbrev pub leaf_mark : Row → ℕ → Entry → Option Next
   leaf_mark row base entries.Lost = None
   leaf_mark row base entries.Done = None
-  leaf_mark row base (entries.Step dated tail conditions u v) = next_from tail (met_row K (window dated u v) (conditions_at f conditions) row base r)
+  leaf_mark row base (entries.Step w tail conditions) = next_from tail (met_row K (meant w) (conditions_at f conditions) row base r)
   leaf_mark row base (entries.Choice left right) = None
   leaf_mark row base (entries.Both left right) = None
   leaf_mark row base (entries.Then left right) = None

@@ -4,7 +4,6 @@ ghost use Rattle.residuals.specs.Marks.{mark_of};
 
 use crate::conditions::conditions_from;
 use contract_file::File;
-use days::Window;
 use entries::Entry;
 use kinds::{Kind, Row};
 use openings::MOST_NODES;
@@ -29,19 +28,12 @@ fn mark_of<K: Kind>(kind: &K, file: &File, r: &K::Record, node: &Node) -> Mark
     };
     let entry = file.at(step);
     let Entry::Step {
-        calendar,
+        window,
         tail,
         conditions,
-        first,
-        last,
     } = entry
     else {
         return None;
-    };
-    let window = Window {
-        calendar,
-        first,
-        last,
     };
     let conditions = conditions_from(file, conditions);
     let mut after = row;

@@ -7,7 +7,7 @@ use Rattle.language.specs.Clauses.{from_base, calendar, Clause, done, lost, step
 use Rattle.language.specs.Ends.{earlier, later, after, reach, Durations, ends, Relative}
 use Rattle.language.proofs.Days.{Attained, at_weaker, at_reach}
 use Rattle.language.proofs.Shifts.{shift, ends_range, ends_from_zero}
-use Rattle.days.specs.Windows.{window}
+use Rattle.days.specs.Windows.{meant}
 use Rattle.entries.specs.declared.entries.Entry.{Entry}
 use Rattle.entries.specs.declared.entries.Entry.TheVariants as entries
 use Rattle.entries.specs.Parts.{at}
@@ -58,7 +58,7 @@ module _ (f : File) (up : Leading f) (D : Durations) where
       → entry_lasts s D e ≡ lasts D (clause_by f (clause_at f) i e)
   entry_is s i h entries.Lost p = refl
   entry_is s i h entries.Done p = refl
-  entry_is s i h (entries.Step d t cs u v) p = ap (following (reach (window d u v) 0 0)) (h t p.0.up)
+  entry_is s i h (entries.Step w t cs) p = ap (following (reach (meant w) 0 0)) (h t p.0.up)
   entry_is s i h (entries.Choice l r) p = ap₂ earlier (h l p.0.up) (h r p.1.up)
   entry_is s i h (entries.Both l r) p = ap₂ later (h l p.0.up) (h r p.1.up)
   entry_is s i h (entries.Then l r) p = ap₂ following (h l p.0.up) (h r p.1.up)

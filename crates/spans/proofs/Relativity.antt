@@ -1,9 +1,12 @@
 -- A clause that is not dated has no window by the calendar, and the bodies of a sound file have none.
-use Rattle.std.proofs.Common.{◌≡◌, ℕ, zero, suc, true, false, List, sym, refl, subst, inl, inr, arith}
+use Rattle.std.proofs.Common.{◌≡◌, ℕ, zero, suc, false, List, sym, refl, subst, inl, inr, arith}
 use native.Mathlib.Decide.{dec_le}
 use Rattle.std.proofs.lemmas.Bool.{true≢false, or_parts, or_from}
 use Rattle.language.specs.Clauses.{from_base, calendar, Clause, done, lost, step, choice, both, then, call, body}
 use Rattle.language.specs.Ends.{Relative}
+use Rattle.days.specs.declared.windows.Counted.{Counted}
+use Rattle.days.specs.declared.windows.Counted.TheVariants.{FromBase, ByCalendar}
+use Rattle.days.specs.Windows.{window}
 use Rattle.entries.specs.declared.entries.Entry.{Entry}
 use Rattle.entries.specs.declared.entries.Entry.TheVariants.{Lost, Done, Step, Choice, Both, Then, Call, Template, Condition, Argument}
 use Rattle.entries.specs.Parts.{at}
@@ -14,7 +17,7 @@ use Rattle.contract_file.specs.Clauses.{WindowRight}
 use Rattle.contract_file.specs.Chains.{chain}
 use Rattle.contract_file.specs.Reach.{Reached, at_body, further}
 use Rattle.contract_file.specs.Sound.{Sound}
-use Rattle.openings.specs.Clauses.{clause_by, clause_of, clause_at, body_of, body_at, templates_of}
+use Rattle.openings.specs.Clauses.{clause_by, clause_of, clause_at, body_of, body_at, templates_of, conditions_at}
 use Rattle.openings.proofs.Unfolding.{leading, leads_at, unfolds_none, body_is, body_past}
 use Rattle.spans.specs.Spans.{dated}
 
@@ -49,8 +52,11 @@ module _ (f : File) (sound : Sound f) where
   relative_by : (t i : ℕ) (to : ℕ → Clause) → Met t i → ((l : ℕ) → Met t l → Relative (to l)) → (e : Entry) → at es i ≡ e → EntryLeads f i e → WindowRight f i e → Relative (clause_by f to i e)
   relative_by t i to met rest Lost is p w = tt
   relative_by t i to met rest Done is p w = tt
-  relative_by t i to met rest (Step true tail cs u v) is p w = absurd (w.apart refl t met)
-  relative_by t i to met rest (Step false tail cs u v) is p w = rest tail (further i tail met (rw is (omega (arith, p.0.up), inl refl)))
+  relative_by t i to met rest (Step w tail cs) is p right = counted w.counted refl
+    where
+      counted : (c : Counted) → w.counted ≡ c → Relative (step i (window c w.first w.last) (conditions_at f cs) (to tail))
+      counted ByCalendar by = absurd (right.apart by t met)
+      counted FromBase by = rest tail (further i tail met (rw is (omega (arith, p.0.up), inl refl)))
   relative_by t i to met rest (Choice l r) is p w = (
     rest l (further i l met (rw is (omega (arith, p.0.up), inl refl))),
     rest r (further i r met (rw is (omega (arith, p.1.up), inr refl))),
@@ -83,7 +89,7 @@ module _ (f : File) (sound : Sound f) where
   body_by : (j : ℕ) (e : Entry) → at es j ≡ e → Relative (clause_at f (body_of e))
   body_by j Lost is = nothing
   body_by j Done is = nothing
-  body_by j (Step d t cs u v) is = nothing
+  body_by j (Step w t cs) is = nothing
   body_by j (Choice l r) is = nothing
   body_by j (Both l r) is = nothing
   body_by j (Then l r) is = nothing

@@ -5,15 +5,18 @@ use lib.ListN.{length-replicate}
 use Rattle.std.proofs.lemmas.Bool.{cond-true, cond-false}
 use Rattle.std.proofs.lemmas.List.{get_or_past, get_or-replicate}
 use Rattle.std.proofs.lemmas.List.FromFn.{fill_by_all, get_or-map-range_with_len, length-map-range_with_len}
-use Rattle.language.specs.Clauses.{Clause}
+use Rattle.language.specs.Clauses.{Clause, step}
 use Rattle.language.specs.Ends.{Durations, ends, durations}
+use Rattle.days.specs.declared.windows.Counted.{Counted}
+use Rattle.days.specs.declared.windows.Counted.TheVariants.{FromBase, ByCalendar}
+use Rattle.days.specs.Windows.{window, by_calendar}
 use Rattle.entries.specs.declared.entries.Entry.{Entry}
 use Rattle.entries.specs.declared.entries.Entry.TheVariants as entries
 use Rattle.entries.specs.Parts.{at}
 use Rattle.contract_file.specs.declared.files.File.{File}
 use Rattle.contract_file.specs.Pointing.{EntryLeads}
 use Rattle.contract_file.specs.Sound.{Sound}
-use Rattle.openings.specs.Clauses.{clause_by, clause_at, templates_of}
+use Rattle.openings.specs.Clauses.{clause_by, clause_at, templates_of, conditions_at}
 use Rattle.openings.proofs.Unfolding.{Leading, leading, leads_at, unfolds, unfolds_past}
 use Rattle.spans.specs.declared.spans.Span.{Span}
 use Rattle.spans.specs.declared.spans.Span.TheVariants.{Never, ByDay}
@@ -72,8 +75,11 @@ module _ (f : File) (up : Leading f) (days : List (Option ℕ)) where
       → entry_dated s e ≡ dated (clause_by f (clause_at f) i e)
   dated_by s i h entries.Lost p = refl
   dated_by s i h entries.Done p = refl
-  dated_by s i h (entries.Step true t cs u v) p = refl
-  dated_by s i h (entries.Step false t cs u v) p = h t p.0.up
+  dated_by s i h (entries.Step w t cs) p = counted w.counted
+    where
+      counted : (c : Counted) → (by_calendar c || by_day (span_of s t)) ≡ dated (step i (window c w.first w.last) (conditions_at f cs) (clause_at f t))
+      counted ByCalendar = refl
+      counted FromBase = h t p.0.up
   dated_by s i h (entries.Choice l r) p = ap₂ ◌||◌ (h l p.0.up) (h r p.1.up)
   dated_by s i h (entries.Both l r) p = ap₂ ◌||◌ (h l p.0.up) (h r p.1.up)
   dated_by s i h (entries.Then l r) p = ap₂ ◌||◌ (h l p.0.up) (h r p.1.up)

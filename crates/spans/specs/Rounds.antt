@@ -2,7 +2,7 @@
 use Rattle.std.specs.Prelude.{◌≡◌, ℕ, ◌+◌, ◌<◌, ◌≤◌, Bool, true, false, cond, ◌||◌, List, length, Some, None, Option, slice_index_or}
 use Rattle.language.specs.Clauses.{Clause, done, lost, step, choice, both, then, call}
 use Rattle.language.specs.Ends.{earlier, later, after, up_to, reach, Durations, duration, ends}
-use Rattle.days.specs.Windows.{window}
+use Rattle.days.specs.Windows.{meant, by_calendar}
 use Rattle.entries.specs.declared.entries.Entry.{Entry}
 use Rattle.entries.specs.declared.entries.Entry.TheVariants as entries
 use Rattle.contract_file.specs.declared.files.File.{File}
@@ -21,7 +21,7 @@ following x y = after x (λ n. after y (λ m. up_to 65535 (n + m)))
 abbrev pub entry_lasts : List (Option ℕ) → Durations → Entry → Option ℕ
 entry_lasts s D entries.Lost = None
 entry_lasts s D entries.Done = Some 0
-entry_lasts s D (entries.Step calendar tail conditions first last) = following (reach (window calendar first last) 0 0) (of s tail)
+entry_lasts s D (entries.Step w tail conditions) = following (reach (meant w) 0 0) (of s tail)
 entry_lasts s D (entries.Choice left right) = earlier (of s left) (of s right)
 entry_lasts s D (entries.Both left right) = later (of s left) (of s right)
 entry_lasts s D (entries.Then left right) = following (of s left) (of s right)
@@ -56,7 +56,7 @@ by_day (ByDay row) = true
 abbrev pub entry_dated : List Span → Entry → Bool
 entry_dated s entries.Lost = false
 entry_dated s entries.Done = false
-entry_dated s (entries.Step calendar tail conditions first last) = calendar || by_day (span_of s tail)
+entry_dated s (entries.Step w tail conditions) = by_calendar w.counted || by_day (span_of s tail)
 entry_dated s (entries.Choice left right) = by_day (span_of s left) || by_day (span_of s right)
 entry_dated s (entries.Both left right) = by_day (span_of s left) || by_day (span_of s right)
 entry_dated s (entries.Then left right) = by_day (span_of s left) || by_day (span_of s right)

@@ -6,7 +6,7 @@ ghost use Rattle.spans.specs.Rounds.{of, following, entry_lasts, Passed, entry_d
 
 use crate::spans::{Span, span_at};
 use contract_file::{File, MOST_TEMPLATES, PLACES};
-use days::{Window, day_after, earlier, later};
+use days::{Counted, day_after, earlier, later};
 use entries::Entry;
 
 /// The days at a place of a table, and none past its end.
@@ -48,20 +48,7 @@ fn entry_lasts(
 {
     match entry {
         Entry::Done => Some(0),
-        Entry::Step {
-            calendar,
-            tail,
-            first,
-            last,
-            ..
-        } => {
-            let window = Window {
-                calendar,
-                first,
-                last,
-            };
-            following(window.reach(0, 0), days_at(lasts, tail))
-        },
+        Entry::Step { window, tail, .. } => following(window.reach(0, 0), days_at(lasts, tail)),
         Entry::Choice { left, right } => earlier(days_at(lasts, left), days_at(lasts, right)),
         Entry::Both { left, right } => later(days_at(lasts, left), days_at(lasts, right)),
         Entry::Then { left, right } => following(days_at(lasts, left), days_at(lasts, right)),
@@ -88,7 +75,8 @@ fn is_dated(entry: Entry, spans: &[Span; PLACES]) -> bool
     ensures { result ≡ entry_dated spans.now «entry» }
 {
     match entry {
-        Entry::Step { calendar, tail, .. } => calendar || span_at(spans, tail).is_by_day(),
+        Entry::Step { window, tail, .. } => matches!(window.counted, Counted::ByCalendar)
+            || span_at(spans, tail).is_by_day(),
         Entry::Choice { left, right } | Entry::Both { left, right } | Entry::Then { left, right } =>
             span_at(spans, left).is_by_day() || span_at(spans, right).is_by_day(),
         _ => false,

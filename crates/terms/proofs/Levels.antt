@@ -13,7 +13,7 @@ module _ (f : File) (sound : Sound f) where
   few_by : (to : ℕ → Clause) → ((l : ℕ) → BareBelow 17 (to l)) → (i : ℕ) (e : Entry) → Listed e → BareBelow 17 (clause_by f to i e)
   few_by to h i Lost p = tt
   few_by to h i Done p = tt
-  few_by to h i (Step d t cs u v) p = tt
+  few_by to h i (Step w t cs) p = tt
   few_by to h i (Choice l r) p = (h l, h r)
   few_by to h i (Both l r) p = (h l, h r)
   few_by to h i (Then l r) p = (h l, h r)

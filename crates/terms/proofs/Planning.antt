@@ -13,7 +13,7 @@ use Rattle.contract_file.specs.declared.files.File.{File}
 use Rattle.contract_file.specs.Pointing.{EntryLeads}
 use Rattle.contract_file.specs.Sound.{Sound}
 use Rattle.contract_file.proofs.Facts.{known_sound}
-use Rattle.days.specs.Windows.{window}
+use Rattle.days.specs.Windows.{meant}
 use Rattle.openings.specs.declared.known.Openings.{Openings}
 use Rattle.openings.specs.declared.shapes.Shape.{Shape}
 use Rattle.openings.specs.Clauses.{conditions_at, arguments_at, clause_by, clause_at, templates_of}
@@ -125,7 +125,7 @@ module _ (f : File) (level i : ℕ) (row : Row) (base : ℕ) where
     by : (e : Entry) → at f.entries i ≡ e → Planned (plan_by shapes e)
     by entries.Lost e = opens_as _ e _ ((opening_rules _).of_lost row base)
     by entries.Done e = opens_as _ e _ ((opening_rules _).of_done row base)
-    by (entries.Step dated tail cs u v) e = record { when = window dated u v; asks = conditions_at f cs; tail = clause_at f tail; is = means _ e }
+    by (entries.Step w tail cs) e = record { when = meant w; asks = conditions_at f cs; tail = clause_at f tail; is = means _ e }
     by (entries.Choice l r) e =
         let p = leads _ e in
         let is = means _ e in

@@ -26,7 +26,7 @@ module _ (f : File) (caller row : Row) (n m i : ℕ) (more : n ≡ m + 1) where
   no_argument : (rest : ℕ → Arguments) (e : Entry) → ((s : ℕ) (v : Value) (next : ℕ) → e ≡ Argument s v next → ⊥) → listed_by rest e ≡ []
   no_argument rest Lost h = refl
   no_argument rest Done h = refl
-  no_argument rest (Step d t cs u v) h = refl
+  no_argument rest (Step w t cs) h = refl
   no_argument rest (Choice l r) h = refl
   no_argument rest (Both l r) h = refl
   no_argument rest (Then l r) h = refl

@@ -26,7 +26,7 @@ then_plan s l r =
 abbrev pub plan_by : List Shape → Entry → Plan
 plan_by s Lost = plan.Lost
 plan_by s Done = plan.Done
-plan_by s (Step dated tail conditions first last) = plan.Leaf
+plan_by s (Step w tail conditions) = plan.Leaf
 plan_by s (Choice left right) = choice_plan s left right
 plan_by s (Both left right) = both_plan s left right
 plan_by s (Then left right) = then_plan s left right

@@ -2,6 +2,7 @@
 use crate::names::Names;
 use crate::test_words::{FillingWords, TestWords};
 use contract_file::File;
+use days::{Counted, Window};
 use entries::Entry;
 use kinds::{FIELDS, SLOTS};
 use std::fmt;
@@ -55,16 +56,15 @@ fn next_in_chain<W: fmt::Write>(next: u16, f: &mut fmt::Formatter<W>) -> fmt::Re
 }
 
 /// Writes the days of a window.
-fn window<W: fmt::Write>(
-    calendar: bool,
-    first: u32,
-    last: u32,
-    f: &mut fmt::Formatter<W>,
-) -> fmt::Result {
-    if calendar {
-        write!(f, "days {first} to {last} of the calendar")
-    } else {
-        write!(f, "days {first} to {last} after its base")
+fn window<W: fmt::Write>(window: Window, f: &mut fmt::Formatter<W>) -> fmt::Result {
+    let Window {
+        counted,
+        first,
+        last,
+    } = window;
+    match counted {
+        Counted::FromBase => write!(f, "days {first} to {last} after its base"),
+        Counted::ByCalendar => write!(f, "days {first} to {last} of the calendar"),
     }
 }
 
@@ -75,14 +75,12 @@ impl fmt::Display for EntryWords<'_> {
             Entry::Lost => write!(f, "{n} lost"),
             Entry::Done => write!(f, "{n} done"),
             Entry::Step {
-                calendar,
+                window: days,
                 tail,
                 conditions: first_condition,
-                first,
-                last,
             } => {
                 write!(f, "{n} step, ")?;
-                window(calendar, first, last, f)?;
+                window(days, f)?;
                 conditions(self.names, self.file, first_condition, f)?;
                 write!(f, ", then {tail}")
             }

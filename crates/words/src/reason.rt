@@ -4,6 +4,7 @@ ghost use Rattle.std.specs.Prelude.{◌≡◌, slice_index};
 use crate::names::Names;
 use crate::test_words::TestWords;
 use contract_file::{FILE_BYTES, Fault, HEAD_BYTES};
+use days::Window;
 use entries::{ENTRY_BYTES, Entry, decode};
 use kinds::LAST_DAY;
 use std::fmt;
@@ -141,11 +142,17 @@ impl Reason<'_> {
 
     fn window<W: fmt::Write>(&self, i: u16, f: &mut fmt::Formatter<W>) -> fmt::Result {
         match self.entry(i) {
-            Some(Entry::Step { first, last, .. }) if first > last => write!(
+            Some(Entry::Step {
+                window: Window { first, last, .. },
+                ..
+            }) if first > last => write!(
                 f,
                 "entry {i}, a step, has its first day {first} after its last day {last}"
             ),
-            Some(Entry::Step { last, .. }) if last > LAST_DAY => write!(
+            Some(Entry::Step {
+                window: Window { last, .. },
+                ..
+            }) if last > LAST_DAY => write!(
                 f,
                 "entry {i}, a step, has its last day {last} after the last day there is, {LAST_DAY}"
             ),
