@@ -35,6 +35,7 @@ use std::process::Abort;
 use std::test::Fail;
 
 /// The question that fails and the entry at fault.
+// Kept as numbers: the tables tell an answer by those of docs/questions.md.
 fn told_of(fault: Fault) -> (u32, u32) {
     (u32::from(fault.number()), u32::from(fault.entry()))
 }

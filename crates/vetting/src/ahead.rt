@@ -1,17 +1,19 @@
 //! What a contract comes to when it is opened: what is due, and the earliest end.
 use held::Held;
+use openings::MOST_NODES;
 use std::alloc::{AllocError, Global};
 
 /// What is told of each leaf that is due: its entry, and its first and last day.
 const NUMBERS: usize = 3;
 
 /// Places for all leaves of the largest term.
-const PLACES: usize = NUMBERS * 256;
+const PLACES: usize = NUMBERS * MOST_NODES;
 
 /// A line for each open step.
 fn due(heap: Global, held: &Held, day: u32) -> Result<String, AllocError> {
+    // Kept as a list with its count beside it: the running contract writes into memory that is lent, and allocates nothing.
     let mut list = [0; PLACES];
-    // A term has 256 nodes at the most, so the list is never too short.
+    // No term has more leaves than nodes, so the list is never too short.
     let leaves = held.due_list(&mut list).unwrap_or(0);
     if leaves == 0 {
         return String::from_str(heap, "due: nothing\n");

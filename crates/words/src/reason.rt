@@ -26,6 +26,7 @@ pub fn byte(bytes: &[u8], at: usize) -> u8
 }
 
 /// What an entry with a tag is called, if the tag is listed.
+// Kept as the numbers of docs/file-format.md: where these words are wanted, no entry was decoded.
 fn tag_name(tag: u8) -> Option<&'static str> {
     match tag {
         1 => Some("a done"),
@@ -142,17 +143,21 @@ impl Reason<'_> {
 
     fn window<W: fmt::Write>(&self, i: u16, f: &mut fmt::Formatter<W>) -> fmt::Result {
         match self.entry(i) {
-            Some(Entry::Step {
-                window: Window { first, last, .. },
-                ..
-            }) if first > last => write!(
+            Some(
+                Entry::Step {
+                    window: Window { first, last, .. },
+                    ..
+                },
+            ) if first > last => write!(
                 f,
                 "entry {i}, a step, has its first day {first} after its last day {last}"
             ),
-            Some(Entry::Step {
-                window: Window { last, .. },
-                ..
-            }) if last > LAST_DAY => write!(
+            Some(
+                Entry::Step {
+                    window: Window { last, .. },
+                    ..
+                },
+            ) if last > LAST_DAY => write!(
                 f,
                 "entry {i}, a step, has its last day {last} after the last day there is, {LAST_DAY}"
             ),
