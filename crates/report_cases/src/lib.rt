@@ -298,20 +298,16 @@ mod tests {
     use std::process::Abort;
     use std::test::Fail;
 
-    /// Compares what is told of a contract with its bytes changed.
-    fn compare<F>(
+    /// Compares what is told in each case with its text.
+    fn compare<F: Fn([(usize, u8); 2], u32) -> Result<String, AllocError>>(
         rt: &impl Abort,
-        heap: Global,
-        contract: &Contract,
         cases: &[Case],
         told: F,
     ) -> Result<(), Fail>
-    where
-        F: Fn(Global, &Contract, &[(usize, u8)], u32) -> Result<String, AllocError>,
         requires { F.IsAlwaysCallable told }
     {
         for case in cases {
-            let text = told(heap, contract, &case.edits, case.day)?;
+            let text = told(case.edits, case.day)?;
             assert_eq!(rt; text.as_str(), case.text, "{}", case.name);
         }
         Ok(())
@@ -319,27 +315,52 @@ mod tests {
 
     #[test]
     fn delivery(rt: HostRuntime) -> Result<(), Fail> {
-        compare(&rt, rt.alloc(), &DELIVERY, &ON_DELIVERY, edited)
+        let heap = rt.alloc();
+        compare(
+            &rt,
+            &ON_DELIVERY,
+            |edits, day| edited(heap, &DELIVERY, &edits, day),
+        )
     }
 
     #[test]
     fn monthly(rt: HostRuntime) -> Result<(), Fail> {
-        compare(&rt, rt.alloc(), &MONTHLY, &ON_MONTHLY, edited)
+        let heap = rt.alloc();
+        compare(
+            &rt,
+            &ON_MONTHLY,
+            |edits, day| edited(heap, &MONTHLY, &edits, day),
+        )
     }
 
     #[test]
     fn ahead_of_delivery(rt: HostRuntime) -> Result<(), Fail> {
-        compare(&rt, rt.alloc(), &DELIVERY, &AHEAD_OF_DELIVERY, looked_ahead)
+        let heap = rt.alloc();
+        compare(
+            &rt,
+            &AHEAD_OF_DELIVERY,
+            |edits, day| looked_ahead(heap, &DELIVERY, &edits, day),
+        )
     }
 
     #[test]
     fn ahead_of_monthly(rt: HostRuntime) -> Result<(), Fail> {
-        compare(&rt, rt.alloc(), &MONTHLY, &AHEAD_OF_MONTHLY, looked_ahead)
+        let heap = rt.alloc();
+        compare(
+            &rt,
+            &AHEAD_OF_MONTHLY,
+            |edits, day| looked_ahead(heap, &MONTHLY, &edits, day),
+        )
     }
 
     #[test]
     fn ahead_of_wheels(rt: HostRuntime) -> Result<(), Fail> {
-        compare(&rt, rt.alloc(), &WHEELS, &AHEAD_OF_WHEELS, looked_ahead)
+        let heap = rt.alloc();
+        compare(
+            &rt,
+            &AHEAD_OF_WHEELS,
+            |edits, day| looked_ahead(heap, &WHEELS, &edits, day),
+        )
     }
 
     #[test]
