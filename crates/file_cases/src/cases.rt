@@ -26,33 +26,34 @@ mod sizes;
 mod values;
 mod windows;
 
-use crate::writing::{Numbers, file_bytes, parts};
-use approval::{Checked, check};
-use contract_file::{ReadFile, read};
-use kinds::{Inspections, Kind, Transfers};
+use crate::asking::check_as;
+use crate::writing::{file_bytes, parts};
+use approval::Checked;
+use contract_file::{Fault, ReadFile, read};
 use std::alloc::Global;
 use std::process::Abort;
-use std::str::from_utf8;
 use std::test::Fail;
+
+/// The question that fails and the entry at fault.
+// Kept as numbers: the tables tell an answer by those of docs/questions.md.
+fn told_of(fault: Fault) -> (u32, u32) {
+    (u32::from(fault.number()), u32::from(fault.entry()))
+}
 
 /// What reading tells of a file: a question and an entry, or zeros.
 fn tell_read(bytes: &[u8]) -> (u32, u32) {
     let mut file = ReadFile::new();
     match read(&mut file, bytes) {
         Ok(()) => (0, 0),
-        Err(fault) => (u32::from(fault.number()), u32::from(fault.entry())),
+        Err(fault) => told_of(fault),
     }
 }
 
 /// Checks a file into a place, as one of inspections for kind 2 and of transfers for any other, and tells of it.
 fn tell(place: &mut Checked, bytes: &[u8], kind: u32, day: u32) -> (u32, u32) {
-    let answer = match kind {
-        2 => check(place, bytes, &Inspections, day),
-        _ => check(place, bytes, &Transfers, day),
-    };
-    match answer {
+    match check_as(kind, place, bytes, day) {
         Ok(()) => (0, u32::from(place.nodes())),
-        Err(fault) => (u32::from(fault.number()), u32::from(fault.entry())),
+        Err(fault) => told_of(fault),
     }
 }
 
@@ -71,46 +72,38 @@ fn held(place: &Checked) -> [u32; 6] {
 
 /// Runs a case: checks the file into a place, which a refusal leaves as it was, and reads the file alone, which asks
 /// the questions 1 to 7.
-fn run_case(rt: &impl Abort, heap: Global, place: &mut Checked, line: &[u8]) -> Result<(), Fail> {
-    let name = from_utf8(line).unwrap_or("?");
-    let parts = parts(heap, line)?;
-    let parts = parts.as_slice();
-    assert!(rt; parts.len() > 2, "a part is missing: {name}");
-    let [_, told, head, entries @ ..] = parts else {
-        return Err(Fail::new("a part is missing"));
+fn run_case(rt: &impl Abort, heap: Global, place: &mut Checked, line: &str) -> Result<(), Fail> {
+    let parts = parts(heap, line.as_bytes())?;
+    let [_, told, head, entries @ ..] = parts.as_slice() else {
+        panic!(rt; "a part is missing: {line}");
     };
     let bytes = file_bytes(heap, head, entries)?;
-    let [_, question, entry, ..] = *told;
-    let [_, kind, _, count, templates, contract, day, _, other] = *head;
+    let [question, entry, ..] = told.map(|number| number.unwrap_or(0));
+    let [kind, _, count, templates, contract, day, _, other] = head.map(|number| number.unwrap_or(
+        0,
+    ));
     let before = held(place);
     let checked_with = if other == 0 { kind } else { other };
     assert_eq!(rt;
         tell(place, &bytes, checked_with, day),
         (question, entry),
-        "{name}"
+        "{line}"
     );
     let (read, after) = match question {
         0 => ((0, 0), [kind, count, templates, contract, day, entry]),
         1..=7 => ((question, entry), before),
         _ => ((0, 0), before),
     };
-    assert_eq!(rt; tell_read(&bytes), read, "{name}");
-    assert_eq!(rt; held(place), after, "{name}");
+    assert_eq!(rt; tell_read(&bytes), read, "{line}");
+    assert_eq!(rt; held(place), after, "{line}");
     Ok(())
 }
 
-/// Runs cases, one after the other into one place. A line may be empty; the last one ends like the others.
-fn run(rt: &impl Abort, heap: Global, cases: &[u8]) -> Result<(), Fail> {
+/// Runs cases, one after the other into one place. A line may be empty.
+fn run(rt: &impl Abort, heap: Global, cases: &str) -> Result<(), Fail> {
     let mut place = Checked::new();
-    let mut start = 0;
-    for (i, byte) in cases.iter().enumerate() {
-        if *byte == b'\n' {
-            if start < i {
-                run_case(rt, heap, &mut place, &cases[start..i])?;
-            }
-            start = i + 1;
-        }
+    for line in cases.lines().filter(|line| !line.is_empty()) {
+        run_case(rt, heap, &mut place, line)?;
     }
-    assert_eq!(rt; start, cases.len());
     Ok(())
 }

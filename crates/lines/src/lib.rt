@@ -2,28 +2,29 @@
 #![tactic(auto)]
 
 ghost use Rattle.std.specs.Prelude.{◌≡◌};
+ghost use Rattle.std.specs.Char.{is_ascii_digit};
+ghost use Rattle.std.specs.List.{list_all};
 ghost use Rattle.lines.specs.Numbers.{number_of};
+
+use std::str::from_utf8;
 
 /// The most digits that a number is written with.
 const MOST_DIGITS: usize = 10;
+
+/// Is it digits alone?
+fn is_digits(text: &[u8]) -> bool
+    ensures { result ≡ list_all is_ascii_digit text.now }
+{
+    text.iter().all(|b| b.is_ascii_digit())
+}
 
 /// A number of 1 to 10 digits that fits 32 bits, or nothing.
 pub fn number(text: &[u8]) -> Option<u32>
     ensures { result ≡ number_of text.now }
 {
-    if text.is_empty() || text.len() > MOST_DIGITS {
+    // `parse` alone would also take a plus in front, and any number of zeros.
+    if text.len() > MOST_DIGITS || !is_digits(text) {
         return None;
     }
-    let mut value = 0u64;
-    for b in text {
-        match *b as char {
-            '0'..='9' => value = value * 10 + (*b - b'0') as u64,
-            _ => return None,
-        }
-    }
-    if value <= u32::MAX as u64 {
-        Some(value as u32)
-    } else {
-        None
-    }
+    from_utf8(text).ok()?.parse::<u32>().ok()
 }

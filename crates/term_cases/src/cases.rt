@@ -25,44 +25,28 @@ mod sizes;
 mod stages;
 mod transfers;
 
-use approval::{Checked, check};
-use file_cases::{Numbers, file_bytes, parts};
+use approval::Checked;
+use file_cases::{Numbers, check_as, file_bytes, parts};
 use held::{Foreseen, Held, TooLarge};
-use kinds::{Inspection, Inspections, Kind, LAST_DAY, Transfer, Transfers};
+use kinds::{Inspection, Inspections, Transfer, Transfers};
 use std::alloc::Global;
 use std::process::Abort;
-use std::str::from_utf8;
 use std::test::Fail;
 
 /// What stands in a place of a lent list that nothing was written to.
 const UNTOUCHED: u64 = 7;
 
+/// What is told of each open step: its entry, and its first and last day.
+const NUMBERS: usize = 3;
+
 /// More places than the largest term has numbers due.
 const PLACES: usize = 800;
 
-/// Opens a file for the kind and the signing day of its head.
-fn opened(
-    rt: &impl Abort,
-    name: &str,
-    heap: Global,
-    head: &Numbers,
-    entries: &[Numbers],
-) -> Result<Held, Fail> {
-    let bytes = file_bytes(heap, head, entries)?;
-    let mut place = Checked::new();
-    let answer = match head[1] {
-        2 => check(&mut place, &bytes, &Inspections, head[6]),
-        _ => check(&mut place, &bytes, &Transfers, head[6]),
-    };
-    assert!(rt; answer.is_ok(), "the file is refused: {name}");
-    Ok(Held::open(Foreseen::over(heap, place)?))
-}
-
 /// Sends a record: an inspection for kind 2, and a transfer for any other.
 fn sent(held: &mut Held, numbers: &Numbers) -> Result<(), TooLarge> {
-    let [_, _, one, two, three, four, day, ..] = *numbers;
+    let [_, one, two, three, four, day, ..] = numbers.map(|number| number.unwrap_or(0));
     match held.foreseen().file().kind {
-        2 => {
+        Inspections::NUMBER => {
             let inspection = Inspection {
                 vehicle: one,
                 check: two,
@@ -85,141 +69,130 @@ fn sent(held: &mut Held, numbers: &Numbers) -> Result<(), TooLarge> {
     }
 }
 
-/// Nothing was written to these places.
-fn untouched(rt: &impl Abort, name: &str, places: &[u64]) {
-    for place in places {
-        assert_eq!(rt; *place, UNTOUCHED, "{name}");
-    }
+/// A line that is run.
+#[derive(Drop)]
+struct Line<'a, R> {
+    rt: &'a R,
+    heap: Global,
+    text: &'a str,
 }
 
-/// Compares the front of a list with items, behind which nothing is touched.
-fn compare_items(rt: &impl Abort, name: &str, list: &[u64], items: &[Numbers]) -> Result<(), Fail> {
-    let mut rest = list;
-    for item in items {
-        let [entry, first, last, behind @ ..] = rest else {
-            return Err(Fail::new("too many items"));
+impl<R: Abort> Line<'_, R> {
+    /// Opens the line's file for the kind and the signing day of its head.
+    fn opened(&self) -> Result<Held, Fail> {
+        let Line { rt, heap, text } = *self;
+        let parts = parts(heap, text.as_bytes())?;
+        let [_, head, entries @ ..] = parts.as_slice() else {
+            panic!(rt; "a part is missing: {text}");
         };
-        let [_, own, from, to, ..] = *item;
-        let expected = (u64::from(own), u64::from(from), u64::from(to));
-        assert_eq!(rt; (*entry, *first, *last), expected, "{name}");
-        rest = behind;
+        let [kind, _, _, _, _, day, ..] = head.map(|number| number.unwrap_or(0));
+        let bytes = file_bytes(heap, head, entries)?;
+        let mut place = Checked::new();
+        let answer = check_as(kind, &mut place, &bytes, day);
+        assert!(rt; answer.is_ok(), "the file is refused: {text}");
+        Ok(Held::open(Foreseen::over(heap, place)?))
     }
-    untouched(rt, name, rest);
-    Ok(())
-}
 
-/// A list that lacks a place is refused, and nothing is written to it.
-fn compare_short(
-    rt: &impl Abort,
-    name: &str,
-    heap: Global,
-    held: &Held,
-    leaves: usize,
-) -> Result<(), Fail> {
-    let Some(places) = leaves.saturating_mul(3).checked_sub(1) else {
-        return Ok(());
-    };
-    let mut list = vec![in heap; UNTOUCHED; places]?;
-    let number = match held.due_list(&mut list) {
-        Ok(_) => 0,
-        Err(refused) => refused.number(),
-    };
-    assert_eq!(rt; number, 18, "{name}");
-    untouched(rt, name, &list);
-    Ok(())
-}
+    /// Nothing was written to these places.
+    fn compare_untouched(&self, places: &[u64]) {
+        let text = self.text;
+        assert!(self.rt; places.iter().all(|place| *place == UNTOUCHED), "{text}");
+    }
 
-/// Compares what is due with the items of a case.
-fn compare_due(
-    rt: &impl Abort,
-    name: &str,
-    heap: Global,
-    held: &Held,
-    items: &[Numbers],
-) -> Result<(), Fail> {
-    let mut list = [UNTOUCHED; PLACES];
-    let leaves = held.due_list(&mut list).unwrap_or(PLACES);
-    assert_eq!(rt; leaves, items.len(), "{name}");
-    compare_items(rt, name, &list, items)?;
-    compare_short(rt, name, heap, held, leaves)
-}
-
-/// Compares a held contract with what a case tells.
-fn compare(
-    rt: &impl Abort,
-    name: &str,
-    heap: Global,
-    held: &Held,
-    clock: u32,
-    told: &Numbers,
-    items: &[Numbers],
-) -> Result<(), Fail> {
-    let end = if told[2] > LAST_DAY {
-        None
-    } else {
-        Some(told[2])
-    };
-    assert_eq!(rt; u32::from(held.nodes()), told[1], "{name}");
-    assert_eq!(rt; held.end_day(clock), end, "{name}");
-    compare_due(rt, name, heap, held, items)
-}
-
-/// Runs a line of what happens.
-fn run_line(rt: &impl Abort, heap: Global, held: &mut Held, line: &[u8]) -> Result<(), Fail> {
-    let name = from_utf8(line).unwrap_or("?");
-    let parts = parts(heap, line)?;
-    let parts = parts.as_slice();
-    assert!(rt; parts.len() > 1, "a part is missing: {name}");
-    let [happens, told, items @ ..] = parts else {
-        return Err(Fail::new("a part is missing"));
-    };
-    let clock = match line {
-        [32, b'o', ..] => held.foreseen().day(),
-        [32, b'c', ..] => happens[2],
-        _ => {
-            let number = match sent(held, happens) {
-                Ok(()) => 0,
-                Err(refused) => refused.number(),
-            };
-            if told[1] == 0 {
-                assert_eq!(rt; u32::from(number), told[2], "{name}");
-                return Ok(());
-            }
-            assert_eq!(rt; number, 0, "{name}");
-            happens[6]
+    /// Compares the front of a list with items, behind which nothing is touched.
+    fn compare_items(&self, list: &[u64], items: &[Numbers]) {
+        let Line { rt, text, .. } = *self;
+        let places = items.len().saturating_mul(NUMBERS);
+        let Some((due, rest)) = list.split_at_checked(places) else {
+            panic!(rt; "too many items: {text}");
+        };
+        let (due, _) = due.as_chunks::<NUMBERS>();
+        for (leaf, item) in due.iter().zip(items) {
+            let [own, from, to, ..] = item.map(|number| u64::from(number.unwrap_or(0)));
+            assert_eq!(rt; *leaf, [own, from, to], "{text}");
         }
-    };
-    compare(rt, name, heap, held, clock, told, items)
-}
-
-/// Runs one line: of a file, which is opened in place of the one before, or of what happens.
-fn run_either(rt: &impl Abort, heap: Global, held: &mut Held, line: &[u8]) -> Result<(), Fail> {
-    if let [32, ..] = line {
-        return run_line(rt, heap, held, line);
+        self.compare_untouched(rest);
     }
-    let name = from_utf8(line).unwrap_or("?");
-    let parts = parts(heap, line)?;
-    let parts = parts.as_slice();
-    assert!(rt; parts.len() > 1, "a part is missing: {name}");
-    let [_, head, entries @ ..] = parts else {
-        return Err(Fail::new("a part is missing"));
-    };
-    *held = opened(rt, name, heap, head, entries)?;
-    Ok(())
+
+    /// A list that lacks a place is refused, and nothing is written to it.
+    fn compare_short(&self, held: &Held, leaves: usize) -> Result<(), Fail> {
+        let Line { rt, heap, text } = *self;
+        let Some(places) = leaves.saturating_mul(NUMBERS).checked_sub(1) else {
+            return Ok(());
+        };
+        let mut list = vec![in heap; UNTOUCHED; places]?;
+        let refused = held
+            .due_list(&mut list)
+            .err()
+            .map(|refused| refused.number());
+        assert_eq!(rt; refused, Some(18), "{text}");
+        self.compare_untouched(&list);
+        Ok(())
+    }
+
+    /// Compares what is due with the items of a case.
+    fn compare_due(&self, held: &Held, items: &[Numbers]) -> Result<(), Fail> {
+        let Line { rt, text, .. } = *self;
+        let mut list = [UNTOUCHED; PLACES];
+        let Ok(leaves) = held.due_list(&mut list) else {
+            panic!(rt; "the list is too short: {text}");
+        };
+        assert_eq!(rt; leaves, items.len(), "{text}");
+        self.compare_items(&list, items);
+        self.compare_short(held, leaves)
+    }
+
+    /// Compares a held contract with what a case tells of it at a clock.
+    fn compare(
+        &self,
+        held: &Held,
+        clock: u32,
+        told: &Numbers,
+        items: &[Numbers],
+    ) -> Result<(), Fail> {
+        let Line { rt, text, .. } = *self;
+        let [nodes, end, ..] = *told;
+        assert_eq!(rt; Some(u32::from(held.nodes())), nodes, "{text}");
+        assert_eq!(rt; held.end_day(clock), end, "{text}");
+        self.compare_due(held, items)
+    }
+
+    /// Runs what happens to a held contract.
+    fn happens(&self, held: &mut Held) -> Result<(), Fail> {
+        let Line { rt, heap, text } = *self;
+        let parts = parts(heap, text.as_bytes())?;
+        let [happens, told, items @ ..] = parts.as_slice() else {
+            panic!(rt; "a part is missing: {text}");
+        };
+        let clock = match text.split_ascii_whitespace().next() {
+            Some("opened") => held.foreseen().day(),
+            Some("clock") => happens[1].unwrap_or(0),
+            _ => {
+                let refused = sent(held, happens)
+                    .err()
+                    .map(|refused| u32::from(refused.number()));
+                if told[0] == Some(0) {
+                    assert_eq!(rt; refused, told[1], "{text}");
+                    return Ok(());
+                }
+                assert_eq!(rt; refused, None, "{text}");
+                happens[5].unwrap_or(0)
+            }
+        };
+        self.compare(held, clock, told, items)
+    }
 }
 
-/// Runs cases, one after the other. A line may be empty; the last one ends like the others.
-fn run(rt: &impl Abort, heap: Global, cases: &[u8]) -> Result<(), Fail> {
+/// Runs cases, one after the other: a file is opened in place of the one before. A line may be empty.
+fn run(rt: &impl Abort, heap: Global, cases: &str) -> Result<(), Fail> {
     let mut held = Held::open(Foreseen::over(heap, Checked::new())?);
-    let mut start = 0;
-    for (i, byte) in cases.iter().enumerate() {
-        if *byte == b'\n' {
-            if start < i {
-                run_either(rt, heap, &mut held, &cases[start..i])?;
-            }
-            start = i + 1;
+    for text in cases.lines().filter(|text| !text.is_empty()) {
+        let line = Line { rt, heap, text };
+        if text.starts_with(' ') {
+            line.happens(&mut held)?;
+        } else {
+            held = line.opened()?;
         }
     }
-    assert_eq!(rt; start, cases.len());
     Ok(())
 }

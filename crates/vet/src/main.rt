@@ -1,7 +1,7 @@
 //! Vets contract.bin in the current folder: `vet [DAY]`.
 #![tactic(auto)]
 
-use anyhow::{Context, anyhow};
+use anyhow::{Context, ensure};
 use contract_file::FILE_BYTES;
 use std::fs::File;
 use std::io::{ErrorKind, Read};
@@ -20,12 +20,11 @@ fn signing_day(rt: &HostRuntime) -> anyhow::Result<u32> {
         )?,
         None => 0,
     };
-    match args.next() {
-        Some(_) => Err(anyhow!(
-            "too many arguments: vet takes one at the most, the signing day, as in: vet 100"
-        )),
-        None => Ok(day),
-    }
+    ensure!(
+        args.next().is_none(),
+        "too many arguments: vet takes one at the most, the signing day, as in: vet 100"
+    );
+    Ok(day)
 }
 
 /// The bytes of the contract file, none if there is no such file.
@@ -37,24 +36,14 @@ fn contract(rt: &HostRuntime) -> io::Result<Vec<u8>> {
             file.take(FILE_BYTES as u64 + 1).read_to_end(&mut bytes)?;
             Ok(bytes)
         }
-        Err(e) => match e.kind() {
-            ErrorKind::NotFound => Ok(bytes),
-            _ => Err(e),
-        },
-    }
-}
-
-/// The same, with the file's name in front of what went wrong.
-fn contract_of(rt: &HostRuntime) -> anyhow::Result<Vec<u8>> {
-    match contract(rt) {
-        Ok(bytes) => Ok(bytes),
-        Err(e) => Err(anyhow!(format!(in rt.alloc(); "{CONTRACT}: {e}")?)),
+        Err(e) if e.kind() == ErrorKind::NotFound => Ok(bytes),
+        Err(e) => Err(e),
     }
 }
 
 fn run(rt: &HostRuntime) -> anyhow::Result<()> {
     let day = signing_day(rt)?;
-    let bytes = contract_of(rt)?;
+    let bytes = contract(rt).context(CONTRACT)?;
     let report = vetting::report(rt.alloc(), &bytes, day)?;
     rt.print(report)?;
     Ok(())
@@ -64,7 +53,7 @@ fn main(rt: HostRuntime) -> anyhow::Result<ExitCode> {
     match run(&rt) {
         Ok(()) => Ok(ExitCode::SUCCESS),
         Err(e) => {
-            eprintln!(rt; "vet: {e}")?;
+            eprintln!(rt; "vet: {e:#}")?;
             Ok(ExitCode::FAILURE)
         }
     }

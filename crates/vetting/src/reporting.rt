@@ -1,25 +1,21 @@
 //! The report on a file.
 ghost use Rattle.std.specs.Prelude.{◌≡◌, IfOk, string_bytes};
-ghost use Rattle.vetting.specs.Told.{Told, Reported};
+ghost use Rattle.vetting.specs.Told.{answer_for, Reported};
 
-use crate::verdict::first_line;
+use crate::verdict::Verdict;
 use approval::{Checked, check};
-use contract_file::File;
+use contract_file::{Fault, File};
 use entries::Entry;
-use kinds::{Inspections, Kind, Transfers};
+use kinds::{Inspections, Transfers};
 use std::alloc::{AllocError, Global};
 use words::{EntryWords, Names, Reason, byte};
 
 /// How many templates a file has.
-fn templates(file: &File) -> u16 {
-    let mut count: u16 = 0;
-    let entries: &[Entry] = &file.entries;
-    for entry in entries {
-        if let Entry::Template { .. } = entry {
-            count = count.saturating_add(1);
-        }
-    }
-    count
+fn templates(file: &File) -> usize {
+    file.entries
+        .iter()
+        .filter(|entry| matches!(entry, Entry::Template { .. }))
+        .count()
 }
 
 /// A checked file in words: a summary, and a line for each entry.
@@ -35,31 +31,37 @@ fn listing(heap: Global, names: Names, checked: &Checked) -> Result<String, Allo
     let mut text = format!(in heap;
         "kind {number} ({kind}), signing day {day}, entries {count}, templates {templates}, nodes on opening {nodes}, contract at entry {contract}\n"
     )?;
-    for i in 1..count.saturating_add(1) {
+    for number in 1..=count {
         let entry = EntryWords {
             names,
             file,
-            number: i,
+            number,
         };
-        let line = format!(in heap; "{entry}\n")?;
-        text.push_str(line.as_str())?;
+        writeln!(text, "{entry}")?;
     }
     Ok(text)
 }
 
-/// The report on a file for a kind.
-fn report_for<K: Kind>(
-    heap: Global,
-    bytes: &[u8],
-    kind: &K,
-    names: Names,
-    day: u32,
-) -> Result<String, AllocError>
-    ensures { IfOk result (λ s. Told (K.Kind.numbered kind.now) K.Kind.meaning.admits day bytes.now (string_bytes s)) }
+/// The answer of check for the kind that goes by these words.
+fn check_as(names: Names, place: &mut Checked, bytes: &[u8], day: u32) -> Result<(), Fault>
+    ensures { result ≡ answer_for names day bytes.now }
 {
+    match names {
+        Names::Transfers => check(place, bytes, &Transfers, day),
+        Names::Inspections => check(place, bytes, &Inspections, day),
+    }
+}
+
+/// The report on the bytes of a file for a signing day. Its first line is the answer of check, for the kind that byte 0
+/// picks; behind it stands, for people, the file or the fault in words.
+pub fn report(heap: Global, bytes: &[u8], day: u32) -> Result<String, AllocError>
+    ensures { IfOk result (λ s. Reported day bytes.now (string_bytes s)) }
+{
+    let names = Names::from(byte(bytes, 0));
     let mut place = Checked::new();
-    let answer = check(&mut place, bytes, kind, day);
-    let mut text = first_line(heap, &answer)?;
+    let answer = check_as(names, &mut place, bytes, day);
+    let verdict = Verdict(answer);
+    let mut text = format!(in heap; "{verdict}")?;
     let words = match answer {
         Ok(()) => listing(heap, names, &place)?,
         Err(fault) => {
@@ -74,16 +76,4 @@ fn report_for<K: Kind>(
     };
     text.push_str(words.as_str())?;
     Ok(text)
-}
-
-/// The report on the bytes of a file for a signing day. Its first line is the answer of check, for the kind that byte 0
-/// picks; behind it stands, for people, the file or the fault in words.
-pub fn report(heap: Global, bytes: &[u8], day: u32) -> Result<String, AllocError>
-    ensures { IfOk result (λ s. Reported day bytes.now (string_bytes s)) }
-{
-    if byte(bytes, 0) == Inspections::NUMBER {
-        report_for(heap, bytes, &Inspections, Names::Inspections, day)
-    } else {
-        report_for(heap, bytes, &Transfers, Names::Transfers, day)
-    }
 }

@@ -3,6 +3,10 @@ use Rattle.std.specs.Prelude.{ℕ, cond, List, codes, ◌==◌}
 use Rattle.words.specs.declared.names.Names.{Names}
 use Rattle.words.specs.declared.names.Names.TheVariants.{Transfers, Inspections}
 
+-- the words that byte 0 of a file picks
+abbrev pub names_of : ℕ → Names
+names_of number = cond (number == 2) Inspections Transfers
+
 abbrev pub kind_name : Names → List ℕ
 kind_name Transfers = codes "transfers"
 kind_name Inspections = codes "inspections"

@@ -39,6 +39,7 @@ fn arguments<W: fmt::Write>(file: &File, first: u16, f: &mut fmt::Formatter<W>) 
 }
 
 /// Writes what comes next in a chain.
+// Kept with 0 for none: an entry holds its pointers as docs/file-format.md has them.
 fn next_in_chain<W: fmt::Write>(next: u16, f: &mut fmt::Formatter<W>) -> fmt::Result {
     if next == 0 {
         write!(f, ", the last of its chain")

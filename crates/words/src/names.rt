@@ -1,11 +1,26 @@
 //! The words of a kind of record.
 ghost use Rattle.std.specs.Prelude.{◌≡◌};
-ghost use Rattle.words.specs.Names.{kind_name, field_name};
+ghost use Rattle.words.specs.Names.{names_of, kind_name, field_name};
 
-#[derive(Clone, Copy)]
+use kinds::Inspections;
+
+/// The words of transfers or of inspections.
+#[derive(Clone, Copy, Debug, PartialEq, Eq)]
 pub enum Names {
     Transfers,
     Inspections,
+}
+
+/// Byte 0 of a file picks them: those of inspections for their number, and those of transfers for any other.
+impl From<u8> for Names {
+    ghost from_gives = { λ number names. names ≡ names_of number };
+
+    fn from(number: u8) -> Names {
+        match number {
+            Inspections::NUMBER => Names::Inspections,
+            _ => Names::Transfers,
+        }
+    }
 }
 
 impl Names {

@@ -4,7 +4,7 @@
 use super::run;
 use std::test::Fail;
 
-static CASES: &[u8] = b"\
+static CASES: &str = "\
 kind 0 | 8 0 | 0 1 1 0 1 | 1
 kind 3 | 8 0 | 3 1 1 0 1 | 1
 kind 255 | 8 0 | 255 1 1 0 1 | 1

@@ -2,7 +2,7 @@
 use super::run;
 use std::test::Fail;
 
-static CASES: &[u8] = b"\
+static CASES: &str = "\
 a call, and no template | 6 1 | 1 1 1 0 1 | 7 1
 a call of template 1 of 1 | 0 1 | 1 1 3 2 1 | 7 1; 8 1 3; 1
 a call of template 2 of 1 | 6 1 | 1 1 3 2 1 | 7 2; 8 1 3; 1

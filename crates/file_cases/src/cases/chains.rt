@@ -2,7 +2,7 @@
 use super::run;
 use std::test::Fail;
 
-static CASES: &[u8] = b"\
+static CASES: &str = "\
 templates 1 and 2 | 0 1 | 1 1 3 1 3 | 8 1 3 0 2; 8 2 3; 1
 a chain that starts at number 2 | 5 1 | 1 1 2 1 2 | 8 2 2; 1
 templates 1 and 1 | 5 2 | 1 1 3 1 3 | 8 1 3 0 2; 8 1 3; 1

@@ -2,7 +2,7 @@
 use super::run;
 use std::test::Fail;
 
-static CASES: &[u8] = b"\
+static CASES: &str = "\
 255 choices over lost | 0 1 | 1 1 256 0 1 | 4 0 > > 0 0 0 255; 2
 255 boths over lost | 0 1 | 1 1 256 0 1 | 5 0 > > 0 0 0 255; 2
 255 thens over lost | 0 1 | 1 1 256 0 1 | 6 0 > > 0 0 0 255; 2

@@ -2,7 +2,7 @@
 use super::run;
 use std::test::Fail;
 
-static CASES: &[u8] = b"\
+static CASES: &str = "\
 File A | 0 1 | 1 1 10 0 1 100 | \
     3 0 2 4 0 0 14; 3 0 3 7 0 0 8; 1; 9 1 1 0 5 2; 9 2 1 0 6 1; 9 3 1 0 0 7; 9 1 1 0 8 1; 9 2 1 0 9 2; 9 3 1 0 10 1; 9 4 1 0 0 500
 File A, the last byte is missing | 1 0 | 1 1 10 0 1 100 167 | \

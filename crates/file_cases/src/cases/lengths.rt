@@ -2,7 +2,7 @@
 use super::run;
 use std::test::Fail;
 
-static CASES: &[u8] = b"\
+static CASES: &str = "\
 one byte | 1 0 | 1 1 1 0 1 0 1 | 1
 7 bytes, one less than the head | 1 0 | 1 1 1 0 1 0 7 | 1
 the head alone, with a count of 0 | 1 0 | 1 1 0 0 1 0 8 | 1

@@ -3,7 +3,7 @@
 use super::run;
 use std::test::Fail;
 
-static CASES: &[u8] = b"\
+static CASES: &str = "\
 entries 2 and 3 fail question 3 | 3 2 | 1 1 3 0 1 | 1; 11; 0
 all entries fail question 3 | 3 1 | 1 1 3 0 1 | 0; 1 1; 3 2
 entries 1 and 2 fail question 4 | 4 1 | 1 1 2 0 1 | 3 0 1 0 0 0 9; 3 0 2 0 0 0 9

@@ -4,7 +4,7 @@
 use super::run;
 use std::test::Fail;
 
-static CASES: &[u8] = b"\
+static CASES: &str = "\
 no contract | 4 0 | 1 1 5 4 0 | 1; 9 1 4; 10 0 1; 8 1 5; 1
 a condition as contract | 4 0 | 1 1 5 4 2 | 1; 9 1 4; 10 0 1; 8 1 5; 1
 an argument as contract | 4 0 | 1 1 5 4 3 | 1; 9 1 4; 10 0 1; 8 1 5; 1

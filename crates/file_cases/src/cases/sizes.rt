@@ -2,7 +2,7 @@
 use super::run;
 use std::test::Fail;
 
-static CASES: &[u8] = b"\
+static CASES: &str = "\
 done | 0 1 | 1 1 1 0 1 | 1
 lost | 0 1 | 1 1 1 0 1 | 2
 a step with a both as tail | 0 1 | 1 1 4 0 1 | 3 0 2 0 0 0 9; 5 0 3 3; 3 0 4 0 0 0 9; 1

@@ -2,7 +2,7 @@
 use super::run;
 use std::test::Fail;
 
-static CASES: &[u8] = b"\
+static CASES: &str = "\
 tag 0 | 3 2 | 1 1 2 0 1 | 1; 0
 tag 11 | 3 2 | 1 1 2 0 1 | 1; 11
 tag 255 | 3 2 | 1 1 2 0 1 | 1; 255

@@ -2,7 +2,7 @@
 use super::run;
 use std::test::Fail;
 
-static CASES: &[u8] = b"\
+static CASES: &str = "\
 from base, the first day after the last | 7 1 | 1 1 2 0 1 | 3 0 2 0 0 9 8; 1
 from base, the first day as the last | 0 1 | 1 1 2 0 1 | 3 0 2 0 0 9 9; 1
 from base, both days 0 | 0 1 | 1 1 2 0 1 | 3 0 2; 1

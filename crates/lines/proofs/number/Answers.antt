@@ -1,31 +1,13 @@
-use Rattle.std.proofs.Common.{pow-suc, add-one, arith}
-use Rattle.std.proofs.lemmas.Bool.Decides.{nat_tests}
-use Rattle.lines.specs.Numbers.{number_of}
-use Rattle.lines.proofs.Scans.{value_next, value_end}
+use Rattle.std.proofs.Common.{arith}
+use Rattle.std.proofs.lemmas.Grind.{common_steps}
+use Rattle.lines.proofs.Digits.{number_of-long, number_of-other, parsed, utf8}
 use Rattle.lines.proofs.number.Goals as goal
 
-pub returns-then-is_empty : goal.returns-then-is_empty
-unfolding number_of
-returns-then-is_empty c = grind (arith, nat_tests)
+pub returns-then-text-gt-MOST_DIGITS : goal.returns-then-text-gt-MOST_DIGITS
+returns-then-text-gt-MOST_DIGITS c = grind (arith, common_steps, number_of-long c.args.text.now, number_of-other c.args.text.now)
 
-pub returns-in_default : goal.returns-in_default
-unfolding number_of
-returns-in_default c = grind (arith, nat_tests, value_next c.loop-b.value c.args.text.now c.loop-b.b-index)
+pub returns-in_err-ok : goal.returns-in_err-ok
+returns-in_err-ok c = grind (arith, common_steps, utf8 c.args.text.now)
 
-pub returns-in_default-2 : goal.returns-in_default-2
-unfolding number_of
-returns-in_default-2 c = grind (arith, nat_tests, value_next c.loop-b.value c.args.text.now c.loop-b.b-index)
-
-pub loop-b-preserved : goal.loop-b-preserved
-loop-b-preserved c = (
-  rw (add-one, pow-suc) (omega arith),
-  grind (arith, nat_tests, value_next c.loop-b.value c.args.text.now c.loop-b.b-index),
-)
-
-pub returns-then-value : goal.returns-then-value
-unfolding number_of
-returns-then-value c = grind (arith, nat_tests, value_end c.loop-b.value c.args.text.now c.loop-b.b-index)
-
-pub returns-else-value : goal.returns-else-value
-unfolding number_of
-returns-else-value c = grind (arith, nat_tests, value_end c.loop-b.value c.args.text.now c.loop-b.b-index)
+pub returns : goal.returns
+returns c = grind (arith, common_steps, parsed c.in_ok-ok.field-0.now c.parse.result)

@@ -2,7 +2,7 @@
 use super::run;
 use std::test::Fail;
 
-static THENS: &[u8] = b"\
+static THENS: &str = "\
 254 thens over a step that may come at once | 1 1 256 0 1 7 | 6 0 > > 0 0 0 254; 3 0 256 0 0 0 9; 1
  opened | 255 7 | 255 7 16
  record 0 0 0 0 10 | 254 10 | 255 10 19
@@ -61,7 +61,7 @@ a step, then 252 thens over done | 1 1 256 0 1 | 6 0 255 >; 6 0 > > 0 0 0 252; 1
  record 0 0 0 0 3 | 1 3
 ";
 
-static SIDES: &[u8] = b"\
+static SIDES: &str = "\
 50 times a step or the same step, one after the other | 1 1 101 0 1 | \
     4 0 > >; 3 0 > 0 0 0 5; 4 0 > >; 3 0 > 0 0 1 5; 4 0 > >; 3 0 > 0 0 2 5; 4 0 > >; 3 0 > 0 0 0 5; 4 0 > >; 3 0 > 0 0 1 5; 4 0 > >; \
     3 0 > 0 0 2 5; 4 0 > >; 3 0 > 0 0 0 5; 4 0 > >; 3 0 > 0 0 1 5; 4 0 > >; 3 0 > 0 0 2 5; 4 0 > >; 3 0 > 0 0 0 5; 4 0 > >; 3 0 > 0 0 1 5; \
@@ -130,7 +130,7 @@ a step, then 252 choices over a step by the calendar | 1 1 256 0 1 | 6 0 255 >; 
  clock 10 | 2 - | 255 1 9
 ";
 
-static TEMPLATES: &[u8] = b"\
+static TEMPLATES: &str = "\
 16 templates, each twice the one below, over a step a day | 1 1 49 1 49 | \
     8 1 17 0 2; 8 2 19 0 3; 8 3 21 0 4; 8 4 23 0 5; 8 5 25 0 6; 8 6 27 0 7; 8 7 29 0 8; 8 8 31 0 9; 8 9 33 0 10; 8 10 35 0 11; 8 11 37 0 12; \
     8 12 39 0 13; 8 13 41 0 14; 8 14 43 0 15; 8 15 45 0 16; 8 16 47; 3 0 18 0 0 1 1; 1; 6 0 > >; 7 1; 6 0 > >; 7 2; 6 0 > >; 7 3; 6 0 > >; 7 4; \

@@ -2,7 +2,7 @@
 use super::run;
 use std::test::Fail;
 
-static WINDOWS: &[u8] = b"\
+static WINDOWS: &str = "\
 a window from base, and the clock before it, in it and behind it | 1 1 2 0 1 | 3 0 2 0 0 5 9; 1
  opened | 1 5 | 1 5 9
  clock 4 | 1 5 | 1 5 9
@@ -68,7 +68,7 @@ done both done, then done | 1 1 3 0 1 | 6 0 2 3; 5 0 3 3; 1
  clock 9 | 1 9
 ";
 
-static SIDES: &[u8] = b"\
+static SIDES: &str = "\
 the earlier of two steps | 1 1 4 0 1 | 4 0 2 3; 3 0 4 0 0 7 9; 3 0 4 0 0 5 6; 1
  opened | 3 5 | 2 7 9; 3 5 6
  clock 6 | 3 6 | 2 7 9; 3 5 6
@@ -114,7 +114,7 @@ lost sides are passed over | 1 1 8 0 1 | 4 0 2 5; 6 0 3 4; 3 0 8 0 0 0 3; 2; 5 0
  clock 6 | 6 - | 3 0 3; 6 2 6; 7 0 5
 ";
 
-static ONE_AFTER_ANOTHER: &[u8] = b"\
+static ONE_AFTER_ANOTHER: &str = "\
 tails add up | 1 1 4 0 1 | 3 0 2 0 0 1 2; 3 0 3 0 0 2 3; 3 0 4 0 0 3 4; 1
  opened | 1 6 | 1 1 2
  clock 2 | 1 7 | 1 1 2

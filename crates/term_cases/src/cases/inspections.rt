@@ -2,7 +2,7 @@
 use super::run;
 use std::test::Fail;
 
-static FIRST: &[u8] = b"\
+static FIRST: &str = "\
 contract 1, choice, both, then, template | 2 1 22 10 1 65510 | \
     6 0 4 2; 6 0 3 4; 5 0 4 21; 3 0 5 8 0 3 7; 4 0 21 6; 7 1 0 7; 10 2 2; 9 1 3 1 9; 9 4 4 2; 8 1 11; 6 0 12 15; 3 0 21 13 0 2 2; 9 2 3 1 14; \
     9 4 4 1; 4 0 16 20; 3 0 21 17 0 3 10; 9 1 1 0 18 1; 9 2 1 0 19 7; 9 4 5 2 0 1; 3 0 21 22 0 1 2; 1; 9 2 4
@@ -135,7 +135,7 @@ contract 14, both, template | 2 1 19 10 1 | \
  record 0 0 20 9000 7 | 1 8 | 12 8 12
 ";
 
-static SECOND: &[u8] = b"\
+static SECOND: &str = "\
 contract 15, choice, then | 2 1 10 0 1 10 | 6 0 2 4; 6 0 3 4; 6 0 8 4; 6 0 7 5; 4 0 6 7; 3 0 8 0 0 1 5; 3 0 8 9 0 3 7; 1; 9 3 6 0 10 0 10; 9 4 4 1
  opened | 4 22 | 7 13 17
  record 0 3 10 9000 16 | 5 25 | 6 17 21; 7 19 23

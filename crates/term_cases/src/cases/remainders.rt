@@ -2,7 +2,7 @@
 use super::run;
 use std::test::Fail;
 
-static STEPS: &[u8] = b"\
+static STEPS: &str = "\
 done | 1 1 1 0 1 | 1
  opened | 1 0
  record 0 0 0 0 0 | 1 -
@@ -43,7 +43,7 @@ a step by the calendar that was over before | 1 1 2 0 1 10 | 3 1 2 0 0 0 9; 1
  record 0 0 0 0 10 | 1 -
 ";
 
-static SIDES: &[u8] = b"\
+static SIDES: &str = "\
 a choice whose left side is met | 1 1 10 0 1 | \
     4 0 2 6; 3 0 3 5 0 0 9; 3 0 8 4 0 0 9; 9 1 1 0 0 3; 9 1 1 0 0 1; 3 0 7 10 0 0 9; 3 0 8 9 0 0 9; 1; 9 1 1 0 0 4; 9 1 1 0 0 2
  opened | 3 0 | 2 0 9; 6 0 9
@@ -119,7 +119,7 @@ a both of a step over lost | 1 1 7 0 1 | 5 0 2 5; 3 0 3 4 0 0 9; 2; 9 1 1 0 0 1;
  record 1 0 0 0 2 | 1 -
 ";
 
-static FOLLOWS: &[u8] = b"\
+static FOLLOWS: &str = "\
 a then whose left is not met | 1 1 6 0 1 | 6 0 2 4; 3 0 5 3 0 0 9; 9 1 1 0 0 1; 3 0 5 6 0 0 9; 1; 9 1 1 0 0 2
  opened | 2 0 | 2 0 9
  record 2 0 0 0 3 | 1 -

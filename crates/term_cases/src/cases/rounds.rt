@@ -2,7 +2,7 @@
 use super::run;
 use std::test::Fail;
 
-static CASES: &[u8] = b"\
+static CASES: &str = "\
 a step that must repeat, or a step | 1 1 7 5 1 | 4 0 2 3; 7 1; 3 0 4 0 0 5 6; 1; 8 1 6; 3 0 7 0 0 1 2; 7 1
  opened | 3 5 | 6 1 2; 3 5 6
  clock 6 | 3 6 | 6 1 2; 3 5 6

@@ -2,7 +2,7 @@
 use super::run;
 use std::test::Fail;
 
-static CONDITIONS: &[u8] = b"\
+static CONDITIONS: &str = "\
 conditions of a transfer, lowest amount | 1 1 7 0 1 | 3 0 2 4 0 0 9; 3 0 3; 1; 9 1 1 0 5 2; 9 2 1 0 6 1; 9 3 1 0 7 7; 9 4 2 0 0 100 500
  opened | 1 0 | 1 0 9
  record 2 1 7 100 4 | 1 4 | 2 4 4
@@ -53,7 +53,7 @@ a distance one less, not met | 2 1 3 0 1 | 3 0 2 3 0 0 9; 1; 9 3 6 0 0 214748364
  record 0 0 2147483647 0 1 | 1 -
 ";
 
-static PUTS: &[u8] = b"\
+static PUTS: &str = "\
 a put is compared in the tail, equal | 1 1 5 0 1 | 3 0 2 5 0 0 9; 3 0 3 4 0 0 9; 1; 9 2 3 3; 9 1 4 3
  opened | 1 0 | 1 0 9
  record 5 1 1 1 2 | 1 2 | 2 2 11
@@ -143,7 +143,7 @@ two ways into one step, neither row | 1 1 8 0 1 | 4 0 2 4; 3 0 5 3 0 0 9; 9 1 4;
  record 0 7 0 0 3 | 1 -
 ";
 
-static CALLS: &[u8] = b"\
+static CALLS: &str = "\
 a call with constants | 1 1 8 4 1 | 7 1 0 2; 10 0 1 0 3 5; 10 1 1 0 0 6; 8 1 5; 3 0 6 7 0 0 9; 1; 9 1 3 0 8; 9 2 3 1
  opened | 1 0 | 5 0 9
  record 5 6 0 0 3 | 1 3

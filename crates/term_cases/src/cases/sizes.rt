@@ -2,7 +2,7 @@
 use super::run;
 use std::test::Fail;
 
-static FORMS: &[u8] = b"\
+static FORMS: &str = "\
 a tail of 255 nodes | 1 1 130 0 1 | 3 0 2 0 0 0 9; 4 0 > >; 6 0 > > 0 0 0 126; 3 0 130 0 0 0 9; 1
  opened | 1 0 | 1 0 9
  record 0 0 0 0 4 | 255 4 | 129 4 13; 129 4 13
@@ -123,7 +123,7 @@ done then 257 nodes | 1 1 133 0 1 | 3 0 2 133 0 0 9; 6 0 132 3; 4 0 4 4; 6 0 > >
  record 0 0 0 0 5 | 256 5 | 251 5 14; 251 5 14
 ";
 
-static DOUBLING: &[u8] = b"\
+static DOUBLING: &str = "\
 a template that doubles with each record | 1 1 11 2 1 | 7 1; 8 1 3; 3 0 > 0 0 1 1; 4 0 > >; 6 0 > > 0 0 0 5; 7 1; 1
  opened | 1 - | 3 1 1
  record 0 0 0 0 1 | 13 - | 3 2 2; 3 2 2

@@ -2,7 +2,7 @@
 use super::run;
 use std::test::Fail;
 
-static FIRST: &[u8] = b"\
+static FIRST: &str = "\
 contract 1, choice, both, then, template | 1 1 22 1 3 40 | \
     8 1 2; 4 0 4 5; 4 0 8 7; 5 0 5 6; 3 0 9 12 0 15 35; 2; 5 0 8 10; 6 0 10 17; 3 0 21 14; 6 0 11 11; 7 1 0 18; 9 1 3 1 13; 9 3 1 0 0 4; \
     9 1 4 1 15; 9 3 1 0 16 7; 9 4 3 2; 4 0 19 19; 10 2 1; 3 0 21 20 0 15 25; 9 3 1 0 22 4; 1; 9 4 4 1
@@ -141,7 +141,7 @@ contract 14, choice, then, template | 1 1 15 2 1 65510 | \
  record 0 4 7 7 65528 | 2 - | 7 65534 65548
 ";
 
-static SECOND: &[u8] = b"\
+static SECOND: &str = "\
 contract 15, both | 1 1 12 0 1 | \
     5 0 2 4; 3 0 4 3 0 1 5; 9 1 3 2; 3 0 5 10 0 1 3; 3 0 6 7 0 2 3; 1; 9 1 1 0 8 4; 9 3 2 0 9 1 4; 9 4 3 2; 9 1 1 0 11 4; 9 2 3 2 12; \
     9 4 2 0 0 2 2
