@@ -11,64 +11,74 @@ use crate::files::File;
 use crate::leading::{LeadingFile, ParsedFile};
 use entries::{Entry, Sort};
 
-/// Does a pointer from an entry lead up to an entry of this sort?
-fn leads(file: &File, from: u16, to: u16, sort: Sort) -> bool
-    ensures { Decides result (Leads file.now from to sort) }
-{
-    from < to && to <= file.count && file.at(to).sort() == sort
+/// Where pointers lead from: an entry of a file, or its head as entry 0.
+#[derive(Clone, Copy)]
+struct Origin<'a> {
+    file: &'a File,
+    number: u16,
 }
 
-/// Is a pointer none, or does it lead up to an entry of this sort?
-// Kept with 0 for none: the file's layout has it so, and place 0 is lost.
-fn ends_or_leads(file: &File, from: u16, to: u16, sort: Sort) -> bool
-    ensures { Decides result (EndsOrLeads file.now from to sort) }
-{
-    to == 0 || leads(file, from, to, sort)
-}
+impl Origin<'_> {
+    /// Does a pointer lead up to an entry of this sort?
+    fn leads(&self, to: u16, sort: Sort) -> bool
+        ensures { Decides result (Leads self.now.file.now self.now.number to sort) }
+    {
+        self.number < to && to <= self.file.count && self.file.at(to).sort() == sort
+    }
 
-fn sides_lead(file: &File, from: u16, left: u16, right: u16) -> bool
-    ensures { Decides result (SidesLead file.now from left right) }
-{
-    leads(file, from, left, Sort::Clause) && leads(file, from, right, Sort::Clause)
-}
+    /// Is a pointer none, or does it lead up to an entry of this sort?
+    // Kept with 0 for none: the file's layout has it so, and place 0 is lost.
+    fn ends_or_leads(&self, to: u16, sort: Sort) -> bool
+        ensures { Decides result (EndsOrLeads self.now.file.now self.now.number to sort) }
+    {
+        to == 0 || self.leads(to, sort)
+    }
 
-/// Does each pointer of the entry `from` lead where it should?
-fn entry_leads(file: &File, from: u16, entry: Entry) -> bool
-    ensures { Decides result (EntryLeads file.now from «entry») }
-{
-    match entry {
-        Entry::Lost | Entry::Done => true,
-        Entry::Step {
-            tail,
-            conditions,
-            ..
-        } => {
-            leads(file, from, tail, Sort::Clause)
-                && ends_or_leads(file, from, conditions, Sort::Condition)
+    fn sides_lead(&self, left: u16, right: u16) -> bool
+        ensures { Decides result (SidesLead self.now.file.now self.now.number left right) }
+    {
+        self.leads(left, Sort::Clause) && self.leads(right, Sort::Clause)
+    }
+
+    /// Does each pointer of an entry that stands here lead where it should?
+    fn entry_leads(&self, entry: Entry) -> bool
+        ensures { Decides result (EntryLeads self.now.file.now self.now.number «entry») }
+    {
+        match entry {
+            Entry::Lost | Entry::Done => true,
+            Entry::Step {
+                tail,
+                conditions,
+                ..
+            } => {
+                self.leads(tail, Sort::Clause) && self.ends_or_leads(conditions, Sort::Condition)
+            }
+            Entry::Choice { left, right }
+            | Entry::Both { left, right }
+            | Entry::Then { left, right } => self.sides_lead(left, right),
+            Entry::Call { arguments, .. } => self.ends_or_leads(arguments, Sort::Argument),
+            Entry::Template { body, next, .. } => {
+                self.leads(body, Sort::Clause) && self.ends_or_leads(next, Sort::Template)
+            }
+            Entry::Condition { next, .. } => self.ends_or_leads(next, Sort::Condition),
+            Entry::Argument { next, .. } => self.ends_or_leads(next, Sort::Argument),
         }
-        Entry::Choice { left, right } | Entry::Both { left, right } | Entry::Then { left, right } =>
-            { sides_lead(file, from, left, right) }
-        Entry::Call { arguments, .. } => ends_or_leads(file, from, arguments, Sort::Argument),
-        Entry::Template { body, next, .. } => {
-            leads(file, from, body, Sort::Clause) && ends_or_leads(file, from, next, Sort::Template)
-        }
-        Entry::Condition { next, .. } => ends_or_leads(file, from, next, Sort::Condition),
-        Entry::Argument { next, .. } => ends_or_leads(file, from, next, Sort::Argument),
     }
 }
 
 fn head_leads(file: &File) -> bool
     ensures { Decides result (HeadLeads file.now) }
 {
-    leads(file, 0, file.contract, Sort::Clause)
-        && ends_or_leads(file, 0, file.templates, Sort::Template)
+    let head = Origin { file, number: 0 };
+    head.leads(file.contract, Sort::Clause) && head.ends_or_leads(file.templates, Sort::Template)
 }
 
 /// Does each pointer of the entry of a number, or of the head, lead where it should?
-fn pointers_lead(file: &File, i: u16) -> bool
-    ensures { Decides result (Pointers file.now i) }
+fn pointers_lead(file: &File, number: u16) -> bool
+    ensures { Decides result (Pointers file.now number) }
 {
-    (i > 0 || head_leads(file)) && entry_leads(file, i, file.at(i))
+    let here = Origin { file, number };
+    (number > 0 || head_leads(file)) && here.entry_leads(file.at(number))
 }
 
 impl ParsedFile {
