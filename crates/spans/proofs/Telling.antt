@@ -56,7 +56,7 @@ module _ (f : File) (tells : ℕ → Span) (right : (i : ℕ) → by_day (tells 
   rows_are_counted zero i e = ap (count_by by_day) (drop_all i table (omega (arith, length-map-range_with_len tells 0 257)))
   rows_are_counted (suc n) i e =
       let here : get_or table i Never ≡ tells i = get_or-map-range_with_len tells 0 257 i i Never (omega arith) (omega arith) in
-      let one = ap (λ b. cond b 1 0) (ap by_day here ∙ right i) in
+      let one = ap {B = ℕ} (λ b. cond b 1 0) (ap by_day here ∙ right i) in
       let more = rows_are_counted n (i + 1) (omega arith) ∙ ap (rows_in f n) (add-one i) in
       ap (count_by by_day) (drop_more table i Never (omega (arith, length-map-range_with_len tells 0 257)))
       ∙ sum_by-cons (λ s. cond (by_day s) 1 0) (get_or table i Never) (drop (i + 1) table)

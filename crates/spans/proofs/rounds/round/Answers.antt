@@ -1,6 +1,4 @@
-use Rattle.std.proofs.Common.{◌+◌, rules, ap, ◌∙◌, subst, None, arith}
-use Rattle.contract_file.specs.Sound.{Sound}
-use Rattle.contract_file.specs.declared.files.File.{File}
+use Rattle.std.proofs.Common.{◌+◌, rules, None, arith}
 use Rattle.contract_file.proofs.Facts.{known_sound}
 use Rattle.openings.specs.Clauses.{body_at}
 use Rattle.spans.specs.Rounds.{of}
@@ -10,8 +8,5 @@ use Rattle.spans.proofs.rounds.round.Goals as goal
 pub returns : goal.returns
 returns c =
     let f = c.args.read.now.file in
-    let sound = known_sound f (subst (λ (g : File). ∥ Sound g ∥₁) c.file-file.ensures.same c.file-file.ensures.sound) in
-    round_is f sound c.args.durations.now c.pass-lasts.result c.from_fn.result c.pass-lasts.ensures c.from_fn.ensures.items.long
-    (λ k small.
-    made_by_calls _ _ (λ i. of c.pass-lasts.result (body_at c.file-file.result.now (i + 1))) (λ i x f' call. search rules) c.from_fn.result 16 0 c.from_fn.ensures.items.each k None (omega arith) (omega arith)
-    ∙ ap (λ (g : File). of c.pass-lasts.result (body_at g (k + 1))) c.file-file.ensures.same)
+    round_is f (known_sound f c.args.read.now.sound) c.args.durations.now c.pass-lasts.result c.from_fn.result c.pass-lasts.ensures c.from_fn.ensures.items.long
+    (λ k small. made_by_calls _ _ (λ i. of c.pass-lasts.result (body_at f (i + 1))) (λ i x f' call. search rules) c.from_fn.result 16 0 c.from_fn.ensures.items.each k None (omega arith) (omega arith))
