@@ -97,10 +97,10 @@ module _ (w : Weighed) where
   both_size l r x y = ap shapes.size (ap₂ both_shape (sided l x) (sided r y) ∙ sym (both_shape_is (side_term l x) (side_term r y))) ∙ size_is _
 
   -- at least one is
-  pub left_some : (at : ℕ) (x : Ready w at) → 0 < (weight_in weights at).left.size
+  pub left_some : (at : ℕ) (x : Ready w at) → 0 < shapes.size (weight_in weights at).left
   left_some at x = omega (arith, left_size at x, some_nodes (left_of x))
 
-  pub both_some : (l r : Side) (x : Ready w (place l)) (y : Ready w (place r)) → 0 < (both_shape (side_shape weights l) (side_shape weights r)).size
+  pub both_some : (l r : Side) (x : Ready w (place l)) (y : Ready w (place r)) → 0 < shapes.size (both_shape (side_shape weights l) (side_shape weights r))
   both_some l r x y = omega (arith, both_size l r x y, some_nodes (both_of (side_term l x) (side_term r y)))
 
   pub halved : (l r : Side) (x : Ready w (place l)) (y : Ready w (place r)) (a b : Shape) (h : Half) → h ≡ half_by a b
