@@ -2,6 +2,7 @@
 use super::{held, tell};
 use approval::Checked;
 use contract_file::File;
+use days::{Counted, Window};
 use entries::Entry;
 use kinds::Test;
 
@@ -34,11 +35,13 @@ fn is_file_a(file: &File) -> bool {
     let step = matches!(
         file.at(1),
         Entry::Step {
-            calendar: false,
+            window: Window {
+                counted: Counted::FromBase,
+                first: 0,
+                last: 14,
+            },
             tail: 2,
             conditions: 4,
-            first: 0,
-            last: 14,
         }
     );
     let amount = matches!(
