@@ -33,6 +33,7 @@ impl Horizon {
         let spans = entry_spans(read);
         let rows = Vec::with_capacity(heap, usize::from(row_count(&spans)) * DAYS)?;
         let mut horizon = Horizon { spans, rows };
+        // Kept by number: an entry and its span stand at it in two tables, of which one is part of the file.
         for number in (0..PLACES as u16).rev() {
             if let Span::ByDay(_) = span_at(&spans, number) {
                 horizon.push_row(file.at(number))?;

@@ -11,6 +11,7 @@ pub fn fill_from_last<T: Copy, F: Fn(u16, &[T; PLACES]) -> T>(untold: T, rule: F
     ensures { (i : ℕ) → i < 257 → Gives F.Fn rule i (told_past untold result i) (slice_index_or result i untold) }
 {
     let mut table = [untold; PLACES];
+    // Kept by index: the rule reads the table that is being filled.
     for place in (0..PLACES).rev() {
         table[place] = rule(place as u16, &table);
     }
