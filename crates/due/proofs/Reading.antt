@@ -1,6 +1,7 @@
 -- The nodes of a term in their order have its leaves, and their numbers are what is due.
 use Rattle.std.proofs.Common.{◌≡◌, ℕ, ◌+◌, ◌*◌, ◌/◌, ◌<◌, ◌≤◌, List, [], ◌∷◌, ◌++◌, length, take, drop, Ok, Err, sym, refl, ap, ◌∙◌, ap₂, append-nil, arith, length-append}
-use Rattle.std.proofs.lemmas.List.{take_all, drop_more, drop-drop, take-append-drop, take-take, drop-take}
+use Rattle.std.proofs.lemmas.List.{take_all, drop_more, drop-drop}
+use Rattle.std.proofs.Math.Seq.{take-add}
 use Rattle.std.specs.List.{filter_map, flat_map}
 use Rattle.std.proofs.lemmas.List.Elements.{filter_map-append}
 use Rattle.std.proofs.lemmas.Grind.{flat_map-append}
@@ -27,20 +28,17 @@ use Rattle.due.proofs.Writing.{numbers_long}
 abbrev part : List Node → ℕ → ℕ → List Node
 part ns at n = take n (drop at ns)
 
-take_part : {A : Type 0} (n m : ℕ) (xs : List A) → take (n + m) xs ≡ take n xs ++ take m (drop n xs)
-take_part n m xs = sym (take-append-drop n (take (n + m) xs)) ∙ ap₂ ◌++◌ (take-take n (n + m) xs (omega arith)) (drop-take n m xs)
-
 root : (ns : List Node) (at : ℕ) (n : Node) → Is ns at n → part ns at 1 ≡ n ∷ []
 root ns at n h = ap (take 1) (drop_more ns at node.Lost h.0) ∙ ap (λ x. x ∷ []) h.1
 
 -- a node and what stands under it
 under : (ns : List Node) (at k : ℕ) (n : Node) → Is ns at n → part ns at (1 + k) ≡ n ∷ part ns (at + 1) k
-under ns at k n h = take_part 1 k (drop at ns) ∙ ap₂ ◌++◌ (root ns at n h) (ap (take k) (drop-drop 1 at ns))
+under ns at k n h = take-add 1 k (drop at ns) ∙ ap₂ ◌++◌ (root ns at n h) (ap (take k) (drop-drop 1 at ns))
 
 -- and the two sides of a node
 sides : (ns : List Node) (at k m : ℕ) (n : Node) → Is ns at n → part ns at (1 + (k + m)) ≡ n ∷ (part ns (at + 1) k ++ part ns (at + 1 + k) m)
 sides ns at k m n h =
-    under ns at (k + m) n h ∙ ap (λ l. n ∷ l) (take_part k m (drop (at + 1) ns) ∙ ap (λ l. part ns (at + 1) k ++ take m l) (drop-drop k (at + 1) ns))
+    under ns at (k + m) n h ∙ ap (λ l. n ∷ l) (take-add k m (drop (at + 1) ns) ∙ ap (λ l. part ns (at + 1) k ++ take m l) (drop-drop k (at + 1) ns))
 
 module _ (f : File) where
   abbrev pub items : List Node → List Due

@@ -14,131 +14,109 @@ pub build-push-requires-in-Skip-2 : goal.build-push-requires-in-Skip-2
 build-push-requires-in-Skip-2 t c =
     let v = c.args.self.now in
     let x = c.requires.ready in
-    let p = rests c.args.self.now c.args.at c.requires.ready _ c.in-Skip.ensures in
+    let p = rests v c.args.at x _ c.in-Skip.ensures in
     omega (arith, c.requires.room, left_size v c.args.at x, ap nodes p.is, some_nodes (left_of p.part), c.push-in-Skip.ensures.len)
 
 pub build-build-requires : goal.build-build-requires
 build-build-requires t c =
     let v = c.args.self.now in
     let x = c.requires.ready in
-    let p = rests c.args.self.now c.args.at c.requires.ready _ c.in-Only.ensures in
-    let inside = in_table v c.args.at x in
-    let low = p.low in
-    (omega arith, (p.part, omega (arith, c.requires.room, left_size v _ x, left_size v _ p.part, ap nodes p.is)))
+    let p = rests v c.args.at x _ c.in-Only.ensures in
+    (omega (arith, p.low, in_table v c.args.at x), (p.part, omega (arith, c.requires.room, left_size v _ x, left_size v _ p.part, ap nodes p.is)))
 
 pub build-build-requires-in-Choice : goal.build-build-requires-in-Choice
 build-build-requires-in-Choice t c =
     let v = c.args.self.now in
     let x = c.requires.ready in
-    let p = rests c.args.self.now c.args.at c.requires.ready _ c.in-Choice.ensures in
-    let inside = in_table v c.args.at x in
-    let low = p.parts.low in
-    (omega arith, (p.parts.left, omega (arith, c.requires.room, left_size v _ x, left_size v _ p.parts.left, ap nodes p.is, c.push-in-Choice.ensures.len)))
+    let p = rests v c.args.at x _ c.in-Choice.ensures in
+    (omega (arith, p.parts.low, in_table v c.args.at x), (p.parts.left, omega (arith, c.requires.room, left_size v _ x, left_size v _ p.parts.left, ap nodes p.is, c.push-in-Choice.ensures.len)))
 
 pub build-build-requires-in-Choice-2 : goal.build-build-requires-in-Choice-2
 build-build-requires-in-Choice-2 t c =
     let v = c.args.self.now in
     let x = c.requires.ready in
-    let p = rests c.args.self.now c.args.at c.requires.ready _ c.in-Choice.ensures in
-    let inside = in_table v c.args.at x in
-    let low = p.parts.low in
-    let between = p.parts.between in
+    let p = rests v c.args.at x _ c.in-Choice.ensures in
     let first = longer _ _ _ _ (c.build-in-Choice.ensures p.parts.left) in
-    (omega arith, (p.parts.right, omega (arith, c.requires.room, left_size v _ x, left_size v _ p.parts.right, ap nodes p.is, c.push-in-Choice.ensures.len, first)))
+    (omega (arith, p.parts.low, p.parts.between, in_table v c.args.at x), (p.parts.right, omega (arith, c.requires.room, left_size v _ x, left_size v _ p.parts.right, ap nodes p.is, c.push-in-Choice.ensures.len, first)))
 
 pub build-build_both-requires : goal.build-build_both-requires
 build-build_both-requires t c =
     let v = c.args.self.now in
     let x = c.requires.ready in
-    let p = rests c.args.self.now c.args.at c.requires.ready _ c.in-Both.ensures in
-    let inside = in_table v c.args.at x in
-    let low = p.parts.low in
-    (omega arith, (p.parts.between, (p.parts.left, (p.parts.right, omega (arith, c.requires.room, left_size v _ x, both_size v c.in-Both.left c.in-Both.right p.parts.left p.parts.right, ap nodes p.is)))))
+    let p = rests v c.args.at x _ c.in-Both.ensures in
+    (omega (arith, p.parts.low, in_table v c.args.at x), (p.parts.between, (p.parts.left, (p.parts.right, omega (arith, c.requires.room, left_size v _ x, both_size v c.in-Both.left c.in-Both.right p.parts.left p.parts.right, ap nodes p.is)))))
 
 pub build-build_both-requires-in-Either : goal.build-build_both-requires-in-Either
 build-build_both-requires-in-Either t c =
     let v = c.args.self.now in
     let x = c.requires.ready in
-    let p = rests c.args.self.now c.args.at c.requires.ready _ c.in-Either.ensures in
-    let inside = in_table v c.args.at x in
-    let low = p.parts.low in
+    let p = rests v c.args.at x _ c.in-Either.ensures in
     let l = c.in-Either.left in
     let r = c.in-Either.right in
     let size = both_size v (side.Taken l) (side.Kept r) p.parts.left p.parts.right in
-    (omega arith, (p.parts.between, (p.parts.left, (p.parts.right, omega (arith, c.requires.room, left_size v _ x, size, ap nodes p.is, c.push-in-Either.ensures.len)))))
+    (omega (arith, p.parts.low, in_table v c.args.at x), (p.parts.between, (p.parts.left, (p.parts.right, omega (arith, c.requires.room, left_size v _ x, size, ap nodes p.is, c.push-in-Either.ensures.len)))))
 
 pub build-build_both-requires-in-Either-2 : goal.build-build_both-requires-in-Either-2
 build-build_both-requires-in-Either-2 t c =
     let v = c.args.self.now in
     let x = c.requires.ready in
-    let p = rests c.args.self.now c.args.at c.requires.ready _ c.in-Either.ensures in
-    let inside = in_table v c.args.at x in
-    let low = p.parts.low in
+    let p = rests v c.args.at x _ c.in-Either.ensures in
     let l = c.in-Either.left in
     let r = c.in-Either.right in
     let size = both_size v (side.Kept l) (side.Taken r) p.parts.left p.parts.right in
     let first = longer _ _ _ _ (c.build_both-in-Either.ensures p.parts.left p.parts.right) in
-    (omega arith, (p.parts.between, (p.parts.left, (p.parts.right, omega (arith, c.requires.room, left_size v _ x, size, ap nodes p.is, c.push-in-Either.ensures.len, first)))))
+    (omega (arith, p.parts.low, in_table v c.args.at x), (p.parts.between, (p.parts.left, (p.parts.right, omega (arith, c.requires.room, left_size v _ x, size, ap nodes p.is, c.push-in-Either.ensures.len, first)))))
 
 pub build-build-requires-in-Follow : goal.build-build-requires-in-Follow
 build-build-requires-in-Follow t c =
     let v = c.args.self.now in
     let x = c.requires.ready in
-    let p = rests c.args.self.now c.args.at c.requires.ready _ c.in-Follow.ensures in
-    let inside = in_table v c.args.at x in
-    (omega arith, (p.part, omega (arith, c.requires.room, left_size v _ x, left_size v _ p.part, ap nodes p.is, c.push-in-Follow.ensures.len)))
+    let p = rests v c.args.at x _ c.in-Follow.ensures in
+    (omega (arith, in_table v c.args.at x), (p.part, omega (arith, c.requires.room, left_size v _ x, left_size v _ p.part, ap nodes p.is, c.push-in-Follow.ensures.len)))
 
 pub build-build-requires-in-Skip : goal.build-build-requires-in-Skip
 build-build-requires-in-Skip t c =
     let v = c.args.self.now in
     let x = c.requires.ready in
-    let p = rests c.args.self.now c.args.at c.requires.ready _ c.in-Skip.ensures in
-    let inside = in_table v c.args.at x in
-    (omega arith, (p.part, omega (arith, c.requires.room, left_size v _ x, left_size v _ p.part, ap nodes p.is, c.push-in-Skip.ensures.len, c.push-in-Skip-2.ensures.len)))
+    let p = rests v c.args.at x _ c.in-Skip.ensures in
+    (omega (arith, in_table v c.args.at x), (p.part, omega (arith, c.requires.room, left_size v _ x, left_size v _ p.part, ap nodes p.is, c.push-in-Skip.ensures.len, c.push-in-Skip-2.ensures.len)))
 
 pub build-returns-in-Lost : goal.build-returns-in-Lost
-build-returns-in-Lost t c =
-    λ x. retold _ _ _ _ _ (rests c.args.self.now c.args.at x _ c.in-Lost.ensures) (write_lost _ _ _ c.push.ensures.items)
+build-returns-in-Lost t c x =
+    retold _ _ _ _ _ (rests c.args.self.now c.args.at x _ c.in-Lost.ensures) (write_lost _ _ _ c.push.ensures.items)
 
 pub build-returns-in-Open : goal.build-returns-in-Open
-build-returns-in-Open t c =
-    λ x.
+build-returns-in-Open t c x =
     let p = rests c.args.self.now c.args.at x _ c.in-Open.ensures in
     retold _ _ _ _ _ p (c.open_clause.ensures (omega (arith, c.requires.room, left_size c.args.self.now _ x, ap nodes p)))
 
 pub build-returns-in-Only : goal.build-returns-in-Only
-build-returns-in-Only t c =
-    λ x.
+build-returns-in-Only t c x =
     let p = rests c.args.self.now c.args.at x _ c.in-Only.ensures in
     retold _ _ _ _ _ p.is (c.build.ensures p.part)
 
 pub build-returns-in-Choice : goal.build-returns-in-Choice
-build-returns-in-Choice t c =
-    λ x.
+build-returns-in-Choice t c x =
     let p = rests c.args.self.now c.args.at x _ c.in-Choice.ensures in
     retold _ _ _ _ _ p.is (write_choice _ _ _ _ _ _ _ c.push-in-Choice.ensures.items (c.build-in-Choice.ensures p.parts.left) (c.build-in-Choice-2.ensures p.parts.right))
 
 pub build-returns-in-Both : goal.build-returns-in-Both
-build-returns-in-Both t c =
-    λ x.
+build-returns-in-Both t c x =
     let p = rests c.args.self.now c.args.at x _ c.in-Both.ensures in
     retold _ _ _ _ _ p.is (c.build_both.ensures p.parts.left p.parts.right)
 
 pub build-returns-in-Either : goal.build-returns-in-Either
-build-returns-in-Either t c =
-    λ x.
+build-returns-in-Either t c x =
     either_written c.args.self.now c.args.at x _ _ _ _ _ _ (rests c.args.self.now c.args.at x _ c.in-Either.ensures)
     c.push-in-Either.ensures.items c.build_both-in-Either.ensures c.build_both-in-Either-2.ensures
 
 pub build-returns-in-Follow : goal.build-returns-in-Follow
-build-returns-in-Follow t c =
-    λ x.
+build-returns-in-Follow t c x =
     let p = rests c.args.self.now c.args.at x _ c.in-Follow.ensures in
     retold _ _ _ _ _ p.is (write_follow _ _ _ _ _ _ _ _ refl c.push-in-Follow.ensures.items (c.build-in-Follow.ensures p.part))
 
 pub build-returns-in-Skip : goal.build-returns-in-Skip
-build-returns-in-Skip t c =
-    λ x.
+build-returns-in-Skip t c x =
     let v = c.args.self.now in
     let p = rests c.args.self.now c.args.at x _ c.in-Skip.ensures in
     let followed = write_follow _ _ _ _ _ _ _ _ refl c.push-in-Skip-2.ensures.items (c.build-in-Skip.ensures p.part) in
@@ -185,26 +163,22 @@ build_both-build_side-requires-in-Both-2 t c =
     (omega arith, (y, omega (arith, c.requires.room, size, side_size v c.args.right y, ap nodes h, c.push-in-Both.ensures.len, first)))
 
 pub build_both-returns-in-Lost : goal.build_both-returns-in-Lost
-build_both-returns-in-Lost t c =
-    λ x y.
+build_both-returns-in-Lost t c x y =
     let h = halved c.args.self.now c.args.left c.args.right x y _ _ _ c.in-Lost.ensures c.side.ensures c.side-2.ensures in
     retold _ _ _ _ _ h (write_lost _ _ _ c.push.ensures.items)
 
 pub build_both-returns-in-Left : goal.build_both-returns-in-Left
-build_both-returns-in-Left t c =
-    λ x y.
+build_both-returns-in-Left t c x y =
     let h = halved c.args.self.now c.args.left c.args.right x y _ _ _ c.in-Left.ensures c.side.ensures c.side-2.ensures in
     retold _ _ _ _ _ h (c.build_side.ensures x)
 
 pub build_both-returns-in-Right : goal.build_both-returns-in-Right
-build_both-returns-in-Right t c =
-    λ x y.
+build_both-returns-in-Right t c x y =
     let h = halved c.args.self.now c.args.left c.args.right x y _ _ _ c.in-Right.ensures c.side.ensures c.side-2.ensures in
     retold _ _ _ _ _ h (c.build_side-in-Right.ensures y)
 
 pub build_both-returns-in-Both : goal.build_both-returns-in-Both
-build_both-returns-in-Both t c =
-    λ x y.
+build_both-returns-in-Both t c x y =
     let h = halved c.args.self.now c.args.left c.args.right x y _ _ _ c.in-Both.ensures c.side.ensures c.side-2.ensures in
     retold _ _ _ _ _ h (write_both _ _ _ _ _ (side_term c.args.left x) (side_term c.args.right y) c.push-in-Both.ensures.items (c.build_side-in-Both.ensures x) (c.build_side-in-Both-2.ensures y))
 
@@ -214,8 +188,7 @@ build_side-slice_bounds-try_extend_from_slice-end t c =
     omega (arith, k.few, k.ends, c.from.ensures, c.size.ensures, ap (λ w. shapes.size w.held) c.weight.ensures)
 
 pub build_side-returns-in-Kept : goal.build_side-returns-in-Kept
-build_side-returns-in-Kept t c =
-    λ x.
+build_side-returns-in-Kept t c x =
     let k = whole c.args.self.now c.args.side c.in-Kept.at c.in-Kept.is x in
     let size : c.from.result ≡ shapes.size (weight_in c.args.self.now.weights.now c.in-Kept.at).held = c.from.ensures ∙ c.size.ensures ∙ ap (λ w. shapes.size w.held) c.weight.ensures in
     copied _ (nodes_of c.args.self.now.marked) _ _ c.in-Kept.at _ _ k.held (ap (λ n. c.in-Kept.at + n) size ∙ k.ends) (rw c.unwrap.ensures at c.try_extend_from_slice-kept.ensures.ok)
