@@ -19,8 +19,7 @@ use Rattle.terms.specs.declared.nodes.Node.{Node}
 use Rattle.terms.specs.declared.nodes.Node.TheVariants as node
 use Rattle.terms.specs.Tables.{Is, Holds}
 use Rattle.due.specs.Dues.{leaves, dues}
-use Rattle.due.specs.declared.items.Due.{Due}
-use Rattle.due.specs.Items.{item_by, due_item, numbers, node_due, over}
+use Rattle.due.specs.Items.{Item, item_by, due_item, numbers, node_due, over}
 use Rattle.due.specs.Lists.{Listed}
 use Rattle.due.proofs.Writing.{numbers_long}
 
@@ -41,7 +40,7 @@ sides ns at k m n h =
     under ns at (k + m) n h ∙ ap (λ l. n ∷ l) (take-add k m (drop (at + 1) ns) ∙ ap (λ l. part ns (at + 1) k ++ take m l) (drop-drop k (at + 1) ns))
 
 module _ (f : File) where
-  abbrev pub items : List Node → List Due
+  abbrev pub items : List Node → List Item
   items ns = filter_map (node_due f) ns
 
   pub counted : (ns : List Node) (at : ℕ) (t : Term) → Holds f ns at t → length (items (part ns at (nodes t))) ≡ leaves t
@@ -92,7 +91,7 @@ module _ (f : File) (up : Leading f) where
       ∙ ap₂ ◌++◌ (due ns (at + 1) l h.1) (due ns (at + 1 + nodes l) r h.2)
   due ns at (Follow t c row) h = ap (due_numbers f) (under ns at (nodes t) _ h.1) ∙ due ns (at + 1) t h.3
 
-module _ (f : File) (ns : List Node) (before : List ℕ) (dues : List Due) (all : dues ≡ filter_map (node_due f) ns) (t : Term) (held : Holds f ns 0 t) (long : length ns ≡ nodes t) where
+module _ (f : File) (ns : List Node) (before : List ℕ) (dues : List Item) (all : dues ≡ filter_map (node_due f) ns) (t : Term) (held : Holds f ns 0 t) (long : length ns ≡ nodes t) where
   whole : ns ≡ part ns 0 (nodes t)
   whole = sym (take_all (nodes t) ns (omega arith))
 

@@ -9,8 +9,7 @@ use borrow.Rule.Slice.PartMut.{put_mid}
 use Rattle.contract_file.specs.declared.files.File.{File}
 use Rattle.terms.specs.declared.nodes.Node.{Node}
 use Rattle.terms.specs.declared.nodes.Node.TheVariants.{Lost, Done, Leaf, Choice, Both, Follow}
-use Rattle.due.specs.declared.items.Due.{Due}
-use Rattle.due.specs.Items.{node_due, numbers, over}
+use Rattle.due.specs.Items.{Item, node_due, numbers, over}
 
 -- no more items than nodes
 module _ (f : File) where
@@ -24,32 +23,32 @@ module _ (f : File) where
   few (Follow clause row ∷ ns) = omega (arith, few ns)
 
   -- one node more, with an item or none
-  one_more_node : (ns : List Node) (i : ℕ) (o : Option Due) → i < length ns → o ≡ node_due f (get_or ns i Lost)
+  one_more_node : (ns : List Node) (i : ℕ) (o : Option Item) → i < length ns → o ≡ node_due f (get_or ns i Lost)
       → filter_map (node_due f) (take (i + 1) ns) ≡ filter_map (node_due f) (take i ns) ++ cons_option o []
   one_more_node ns i o h is =
       ap (filter_map (node_due f)) (take_more ns i Lost h) ∙ filter_map-append (node_due f) (take i ns) (get_or ns i Lost ∷ [])
       ∙ ap (λ x. filter_map (node_due f) (take i ns) ++ cons_option x []) (sym is)
 
-  module _ (ns : List Node) (i : ℕ) (o : Option Due) (more : i < length ns) (is : o ≡ node_due f (get_or ns i Lost)) (dues dues' : List Due) (so : dues ≡ filter_map (node_due f) (take i ns)) where
-    pub one_due : (x : Due) → o ≡ Some x → dues' ≡ dues ++ x ∷ [] → dues' ≡ filter_map (node_due f) (take (i + 1) ns)
+  module _ (ns : List Node) (i : ℕ) (o : Option Item) (more : i < length ns) (is : o ≡ node_due f (get_or ns i Lost)) (dues dues' : List Item) (so : dues ≡ filter_map (node_due f) (take i ns)) where
+    pub one_due : (x : Item) → o ≡ Some x → dues' ≡ dues ++ x ∷ [] → dues' ≡ filter_map (node_due f) (take (i + 1) ns)
     one_due x some pushed = pushed ∙ ap (λ xs. xs ++ x ∷ []) so ∙ sym (one_more_node ns i (Some x) more (sym some ∙ is))
 
     pub none_due : o ≡ None → dues' ≡ dues → dues' ≡ filter_map (node_due f) (take (i + 1) ns)
     none_due none same = same ∙ so ∙ sym (one_more_node ns i None more (sym none ∙ is) ∙ append-nil (filter_map (node_due f) (take i ns)))
 
 -- three numbers for each item
-pub numbers_long : (xs : List Due) → length (flat_map numbers xs) ≡ 3 * length xs
+pub numbers_long : (xs : List Item) → length (flat_map numbers xs) ≡ 3 * length xs
 numbers_long [] = refl
 numbers_long (x ∷ xs) = omega (arith, numbers_long xs)
 
-module _ (dues : List Due) (before : List ℕ) where
+module _ (dues : List Item) (before : List ℕ) where
   -- what the list holds after some of the items
   pub record SoFar (i : ℕ) (list : List ℕ) : Type 0 where
     pub front : take (3 * i) list ≡ flat_map numbers (take i dues)
     pub rest : drop (3 * i) list ≡ drop (3 * i) before
 
   -- one item more
-  pub one_more : (i k : ℕ) (list new : List ℕ) (d : Due) → i < length dues → 3 * i + 3 ≤ length list → k ≡ 3 → new ≡ numbers (get_or dues i d) → SoFar i list
+  pub one_more : (i k : ℕ) (list new : List ℕ) (d : Item) → i < length dues → 3 * i + 3 ≤ length list → k ≡ 3 → new ≡ numbers (get_or dues i d) → SoFar i list
       → SoFar (i + 1) (put_mid (3 * i) k list new)
   one_more i k list new d more room three is so =
       let long : length new ≡ 3 = ap length is in

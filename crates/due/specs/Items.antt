@@ -7,31 +7,34 @@ use Rattle.entries.specs.declared.entries.Entry.TheVariants as entries
 use Rattle.entries.specs.Parts.{at}
 use Rattle.contract_file.specs.declared.files.File.{File}
 use Rattle.terms.specs.declared.nodes.Node.{Node}
-use Rattle.due.specs.declared.items.Due.{Due}
 use Rattle.terms.specs.declared.nodes.Node.TheVariants.{Lost, Done, Leaf, Choice, Both, Follow}
 
--- A leaf's item, by its step's entry and its base. An entry that is no step has no days.
-abbrev pub item_by : ℕ → ℕ → Entry → Due
-item_by step base entries.Lost = record { step = step; first = 0; last = 0 }
-item_by step base entries.Done = record { step = step; first = 0; last = 0 }
-item_by step base (entries.Step w tail conditions) = record { step = step; first = first (meant w) base; last = last (meant w) base }
-item_by step base (entries.Choice left right) = record { step = step; first = 0; last = 0 }
-item_by step base (entries.Both left right) = record { step = step; first = 0; last = 0 }
-item_by step base (entries.Then left right) = record { step = step; first = 0; last = 0 }
-item_by step base (entries.Call template arguments) = record { step = step; first = 0; last = 0 }
-item_by step base (entries.Template number body next) = record { step = step; first = 0; last = 0 }
-item_by step base (entries.Condition field test next) = record { step = step; first = 0; last = 0 }
-item_by step base (entries.Argument slot value next) = record { step = step; first = 0; last = 0 }
+-- An item: a step, its first day and its last day.
+abbrev pub Item : Type 0
+Item = ℕ × ℕ × ℕ
 
-abbrev pub due_item : File → ℕ → ℕ → Due
+-- A leaf's item, by its step's entry and its base. An entry that is no step has no days.
+abbrev pub item_by : ℕ → ℕ → Entry → Item
+item_by step base entries.Lost = (step, 0, 0)
+item_by step base entries.Done = (step, 0, 0)
+item_by step base (entries.Step w tail conditions) = (step, first (meant w) base, last (meant w) base)
+item_by step base (entries.Choice left right) = (step, 0, 0)
+item_by step base (entries.Both left right) = (step, 0, 0)
+item_by step base (entries.Then left right) = (step, 0, 0)
+item_by step base (entries.Call template arguments) = (step, 0, 0)
+item_by step base (entries.Template number body next) = (step, 0, 0)
+item_by step base (entries.Condition field test next) = (step, 0, 0)
+item_by step base (entries.Argument slot value next) = (step, 0, 0)
+
+abbrev pub due_item : File → ℕ → ℕ → Item
 due_item f step base = item_by step base (at f.entries step)
 
 -- The three numbers of an item.
-abbrev pub numbers : Due → List ℕ
-numbers i = i.step ∷ i.first ∷ i.last ∷ []
+abbrev pub numbers : Item → List ℕ
+numbers i = i.0 ∷ i.1 ∷ i.2 ∷ []
 
 -- The item of one node: only a leaf has one.
-abbrev pub node_due : File → Node → Option Due
+abbrev pub node_due : File → Node → Option Item
 node_due f Lost = None
 node_due f Done = None
 node_due f (Leaf step row base) = Some (due_item f step base)

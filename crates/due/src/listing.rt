@@ -6,7 +6,7 @@ ghost use Rattle.terms.specs.Tables.{Holds};
 ghost use Rattle.due.specs.Items.{node_due, numbers, over};
 ghost use Rattle.due.specs.Lists.{Listed};
 
-use crate::items::{Due, ITEM};
+use crate::items::{ITEM, Item, due_of};
 use arrayvec::ArrayVec;
 use contract_file::File;
 use openings::{MOST_NODES, Openings};
@@ -27,13 +27,13 @@ impl ShortList {
 }
 
 /// What is due of a term, leaf by leaf.
-fn dues_of(file: &File, table: &Table) -> ArrayVec<Due, MOST_NODES>
+fn dues_of(file: &File, table: &Table) -> ArrayVec<Item, MOST_NODES>
     ensures { result.items ≡ filter_map (node_due file.now) table.now.items }
 {
     let nodes = table.as_slice();
     let mut dues = ArrayVec::new();
     for node in nodes {
-        if let Some(due) = Due::of(file, node) {
+        if let Some(due) = due_of(file, node) {
             dues.push(due);
         }
     }
@@ -41,14 +41,14 @@ fn dues_of(file: &File, table: &Table) -> ArrayVec<Due, MOST_NODES>
 }
 
 /// Writes items into the front of a list, one behind the other.
-fn write_dues(dues: &[Due], list: &mut [u64])
+fn write_dues(dues: &[Item], list: &mut [u64])
     requires { 3 * length dues.now ≤ length list.old }
     ensures { list.new ≡ over (flat_map numbers dues.now) list.old }
 {
     // Kept by place: what a list holds is not known once its chunks were lent out.
-    for (leaf, due) in dues.iter().enumerate() {
+    for (leaf, (step, first, last)) in dues.iter().enumerate() {
         let place = ITEM * leaf;
-        list[place..place + ITEM].copy_from_slice(&due.numbers());
+        list[place..place + ITEM].copy_from_slice(&[u64::from(*step), *first, *last]);
     }
 }
 

@@ -30,7 +30,7 @@ pub fn hold<K: Kind>(
     let marked = Marked {
         openings,
         nodes,
-        marks: marks.as_slice(),
+        marks: &marks[..nodes.len()],
         day: kind.day(r),
     };
     let mut weights = [Weight::lost(); MOST_NODES];

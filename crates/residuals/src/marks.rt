@@ -1,9 +1,8 @@
 //! What a record makes of the leaves of a term.
-ghost use Rattle.std.specs.Prelude.{◌≡◌, ◌≤◌, map, length};
+ghost use Rattle.std.specs.Prelude.{◌≡◌, ◌≤◌, map, take, length};
 ghost use Rattle.residuals.specs.Marks.{mark_of};
 
 use crate::conditions::conditions_from;
-use arrayvec::ArrayVec;
 use contract_file::File;
 use entries::Entry;
 use kinds::{Kind, Row};
@@ -48,19 +47,19 @@ fn mark_of<K: Kind>(kind: &K, file: &File, r: &K::Record, node: &Node) -> Mark
     }
 }
 
-/// Holds a record against the nodes of a term, left to right.
+/// Holds a record against the nodes of a term, left to right: a mark for each at its place.
 pub(crate) fn marks_of<K: Kind>(
     kind: &K,
     file: &File,
     r: &K::Record,
     nodes: &[Node],
-) -> ArrayVec<Mark, MOST_NODES>
+) -> [Mark; MOST_NODES]
     requires { length nodes.now ≤ 256 }
-    ensures { result.items ≡ map (mark_of K.Kind.meaning file.now r.now) nodes.now }
+    ensures { take (length nodes.now) result ≡ map (mark_of K.Kind.meaning file.now r.now) nodes.now }
 {
-    let mut marks = ArrayVec::new();
-    for node in nodes {
-        marks.push(mark_of(kind, file, r, node));
+    let mut marks = [None; MOST_NODES];
+    for (at, node) in nodes.iter().enumerate() {
+        marks[at] = mark_of(kind, file, r, node);
     }
     marks
 }

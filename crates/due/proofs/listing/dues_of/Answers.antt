@@ -13,7 +13,7 @@ pub loop-node-preserved : goal.loop-node-preserved
 loop-node-preserved c =
     let f = c.args.file.now in
     let ns = c.as_slice-nodes.result.now in
-    elim c.match-of.branch [
-      | in-Some w ↦ one_due f ns _ _ c.loop-node-test.true c.of.ensures _ _ c.loop-node.invariant _ w.in-Some.is (ap (λ v. v.items) w.dues-is ∙ w.push.ensures.items)
-      | in_default w ↦ none_due f ns _ _ c.loop-node-test.true c.of.ensures _ _ c.loop-node.invariant w.in_default.is (ap (λ v. v.items) w.dues-is)
+    elim c.match-due_of.branch [
+      | in-Some w ↦ one_due f ns _ _ c.loop-node-test.true c.due_of.ensures _ _ c.loop-node.invariant _ w.in-Some.is (ap (λ v. v.items) w.dues-is ∙ w.push.ensures.items)
+      | in_default w ↦ none_due f ns _ _ c.loop-node-test.true c.due_of.ensures _ _ c.loop-node.invariant w.in_default.is (ap (λ v. v.items) w.dues-is)
     ]
