@@ -14,7 +14,7 @@ pub const MOST_TEMPLATES: usize = 16;
 pub const PLACES: usize = 257;
 
 /// What a contract file holds. Each entry stands at its number; the places past the last are lost.
-// Kept as a fixed table: the running contract never allocates, and a pointer is a number, as the file has it.
+// Kept as a fixed table beside its count: nothing is allocated, a pointer is a number, and the head of the file tells the count.
 #[derive(Clone, Copy)]
 pub struct File {
     pub kind: u8,

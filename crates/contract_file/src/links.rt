@@ -10,7 +10,7 @@ use kinds::{FIELDS, Filling, SLOTS, Test};
 use std::marker::{Model, PhantomData};
 
 /// What a step asks of one field, 1 to 4.
-#[derive(Clone, Copy)]
+#[derive(Clone, Copy, Debug, PartialEq, Eq)]
 pub struct Condition {
     pub field: u8,
     pub test: Test,

@@ -15,6 +15,7 @@ use std::array;
 const TEMPLATES: usize = MOST_TEMPLATES + 1;
 
 /// The body that a template points to, and 0 for anything else.
+// Kept with 0 for none, as a pointer has it: the entry of that number is lost, and so opens as no template does.
 fn template_body(entry: Entry) -> u16
     ensures { result ≡ body_of «entry» }
 {

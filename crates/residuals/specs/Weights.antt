@@ -12,11 +12,14 @@ abbrev pub weight_of : Marked → ℕ → Term → Weight
 weight_of m at t = record { held = shape_of t; left = shape_of (left m at t) }
 
 -- The weight of each sort of node, by the weights of its parts.
+abbrev pub unmet_weight : Shape → Weight
+unmet_weight held = record { held = held; left = lost_shape }
+
 abbrev pub lost_weight : Weight
-lost_weight = record { held = lost_shape; left = lost_shape }
+lost_weight = unmet_weight lost_shape
 
 abbrev pub done_weight : Weight
-done_weight = record { held = done_shape; left = lost_shape }
+done_weight = unmet_weight done_shape
 
 abbrev pub leaf_weight : Shape → Weight
 leaf_weight o = record { held = leaf_shape; left = o }

@@ -11,7 +11,7 @@ use crate::marks::marks_of;
 use crate::weighed::Weighed;
 use crate::weights::Weight;
 use kinds::Kind;
-use openings::{MOST_NODES, Openings};
+use openings::{MOST_NODES, Openings, Shape};
 use terms::{Table, TooLarge};
 
 /// Makes the table what a record leaves of its term, if that has at most 256 nodes; else leaves it.
@@ -33,7 +33,7 @@ pub fn hold<K: Kind>(
         marks: &marks[..nodes.len()],
         day: kind.day(r),
     };
-    let mut weights = [Weight::lost(); MOST_NODES];
+    let mut weights = [Weight::unmet(Shape::Lost); MOST_NODES];
     let (whole, _) = marked.weigh(0, &mut weights);
     if usize::from(whole.left.size()) > MOST_NODES {
         return Err(TooLarge);

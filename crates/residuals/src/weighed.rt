@@ -34,11 +34,11 @@ impl Marked<'_> {
         ensures weighed { Weighs self.now at result.1 result.0 weights.old weights.new }
     {
         let Some(node) = self.nodes.get(at) else {
-            return (Weight::lost(), at);
+            return (Weight::unmet(Shape::Lost), at);
         };
         let (weight, end) = match *node {
-            Node::Lost => (Weight::lost(), at + 1),
-            Node::Done => (Weight::done(), at + 1),
+            Node::Lost => (Weight::unmet(Shape::Lost), at + 1),
+            Node::Done => (Weight::unmet(Shape::Done), at + 1),
             Node::Leaf { .. } => (Weight::leaf(self.shape_of(self.mark(at))), at + 1),
             Node::Choice => {
                 let (left, middle) = self.weigh(at + 1, weights);
@@ -72,6 +72,9 @@ impl Weighed<'_> {
     pub(crate) fn weight(&self, place: usize) -> Weight
         ensures { result ≡ weight_in self.now.weights.now place }
     {
-        self.weights.get(place).copied().unwrap_or(Weight::lost())
+        self.weights
+            .get(place)
+            .copied()
+            .unwrap_or(Weight::unmet(Shape::Lost))
     }
 }

@@ -1,6 +1,6 @@
 //! What a term and what is left of it come to.
 ghost use Rattle.std.specs.Prelude.{◌≡◌};
-ghost use Rattle.residuals.specs.Weights.{lost_weight, done_weight, leaf_weight, choice_weight, both_weight, follow_weight};
+ghost use Rattle.residuals.specs.Weights.{unmet_weight, leaf_weight, choice_weight, both_weight, follow_weight};
 
 use openings::Shape;
 
@@ -12,20 +12,12 @@ pub(crate) struct Weight {
 }
 
 impl Weight {
-    pub(crate) fn lost() -> Weight
-        ensures { result ≡ lost_weight }
+    /// A term that no record can meet.
+    pub(crate) fn unmet(held: Shape) -> Weight
+        ensures { result ≡ unmet_weight held }
     {
         Weight {
-            held: Shape::Lost,
-            left: Shape::Lost,
-        }
-    }
-
-    pub(crate) fn done() -> Weight
-        ensures { result ≡ done_weight }
-    {
-        Weight {
-            held: Shape::Done,
+            held,
             left: Shape::Lost,
         }
     }

@@ -30,17 +30,6 @@ none_yet : (cs : List Clause) → replicate (length cs) None ≡ map {B = Option
 none_yet [] = refl
 none_yet (c ∷ cs) = ap (λ (l : Durations). None ∷ l) (none_yet cs)
 
--- an array of what a closure gives for each index, where its calls leave it as it is
-module _ {F B : Type 0} (G : Mut F (ℕ × Unit {0}) B) (f : F) (of_index : ℕ → B) (step : (i : ℕ) (x : B) (f' : F) → Called G f (i, tt) x f' → (x ≡ of_index i) × (f' ≡ f)) where
-  pub made_by_calls : (ys : List B) (n i : ℕ) → IsFromFnResultFrom G f ys i n → (k : ℕ) (d : B) → i ≤ k → k < i + n → get_or ys k d ≡ of_index k
-  made_by_calls ys zero i calls k d low high = absurd (omega arith)
-  made_by_calls ys (suc n) i (f', x, is, call, rest) k d low high =
-      let here = step i x f' call in
-      elim (dec_le k i) [
-        | yes h ↦ (let same : i ≡ k = omega arith in subst (λ j. get_or ys j d ≡ of_index j) same (is.1 d ∙ here.0))
-        | no h ↦ made_by_calls ys n (i + 1) (subst (λ g. IsFromFnResultFrom G g ys (i + 1) n) here.1 rest) k d (omega arith) (omega arith)
-      ]
-
 -- the days of the templates' bodies, told by a pass, are the next durations
 pub round_is : (f : File) → Sound f → (D s next : Durations) → Passed f D s → length next ≡ 16 → ((k : ℕ) → k < 16 → of next k ≡ of s (body_at f (k + 1))) → next ≡ round (templates_of f) D
 round_is f sound D s next passed long each =

@@ -13,7 +13,7 @@ const PLACES: usize = NUMBERS * MOST_NODES;
 fn due(heap: Global, held: &Held, day: u32) -> Result<String, AllocError> {
     // Kept as a list with its count beside it: the running contract writes into memory that is lent, and allocates nothing.
     let mut list = [0; PLACES];
-    // No term has more leaves than nodes, so the list is never too short.
+    // Kept as 0 for a list that is too short, which this one never is: no term has more leaves than nodes.
     let leaves = held.due_list(&mut list).unwrap_or(0);
     if leaves == 0 {
         return String::from_str(heap, "due: nothing\n");

@@ -9,11 +9,10 @@ loop-at-preserved g c =
     let by = mark_of g.K.Kind.meaning c.args.file.now c.args.r.now in
     let ns = c.args.nodes.now in
     let at = c.loop-at.at in
-    let kept = c.loop-at.invariant in
-    (
+    let kept = c.loop-at.invariant in (
       length-set _ _ _ ∙ kept.0,
       take_more_set c.loop-at.marks at _ (omega (arith, kept.0, c.requires)) ∙ ap₂ (λ l y. l ++ y ∷ []) kept.1 c.mark_of.ensures
-      ∙ sym (ap (map by) (take_more ns at Lost c.loop-at-test.true) ∙ map_push by (take at ns) _),
+          ∙ sym (ap (map by) (take_more ns at Lost c.loop-at-test.true) ∙ map_push by (take at ns) _),
     )
 
 pub returns : goal.returns

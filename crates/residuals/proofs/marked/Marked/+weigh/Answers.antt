@@ -18,8 +18,8 @@ returns-clause-weighed t c =
     let stands = sym (c.in-Some.ensures.lookup.3.1 Lost) in
     let room : at < length c.match-node.weights = omega (arith, c.match-node.array_long) in
     elim c.match-node.branch [
-      | in-Lost w ↦ rw (w.end-is, w.weights-is) (weigh_lost m at _ _ (omega (arith, ap length w.weights-is)) (stands ∙ w.in-Lost.is) w.lost-in-Lost.ensures)
-      | in-Done w ↦ rw (w.end-is, w.weights-is) (weigh_done m at _ _ (omega (arith, ap length w.weights-is)) (stands ∙ w.in-Done.is) w.done.ensures)
+      | in-Lost w ↦ rw (w.end-is, w.weights-is) (weigh_lost m at _ _ (omega (arith, ap length w.weights-is)) (stands ∙ w.in-Lost.is) w.unmet-in-Lost.ensures)
+      | in-Done w ↦ rw (w.end-is, w.weights-is) (weigh_done m at _ _ (omega (arith, ap length w.weights-is)) (stands ∙ w.in-Done.is) w.unmet-in-Done.ensures)
       | in-Leaf w ↦
           rw (w.end-is, w.weights-is)
           (weigh_leaf m at _ _ (omega (arith, ap length w.weights-is)) _ _ _ (stands ∙ w.in-Leaf.is) (w.leaf.ensures ∙ ap leaf_weight (w.shape_of.ensures ∙ ap (shape_if m) w.mark.ensures)))
