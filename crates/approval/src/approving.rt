@@ -28,9 +28,8 @@ fn ask_conditions<K: Kind>(read: &ReadFile, kind: &K) -> Result<(), Fault>
     ask_each(|i| admitted(kind, file.at(i)), Fault::Inadmissible)
 }
 
-/// Is the file of this kind, with conditions that the kind admits, the contract small enough when it is opened,
-/// and the signing day early enough? The table tells what each entry opens to.
-pub(crate) fn ask<K: Kind>(
+/// Asks the questions of approving, where the table tells what each entry opens to.
+pub(crate) fn ask_all<K: Kind>(
     read: &ReadFile,
     shapes: &[Shape; PLACES],
     kind: &K,
@@ -53,13 +52,14 @@ pub(crate) fn ask<K: Kind>(
     Ok(())
 }
 
-/// Asks it of a file that has been read. If all pass, the answer is what each entry opens to.
+/// Is a read file of this kind, with conditions that the kind admits, the contract small enough when it is opened, and the
+/// signing day early enough? If so, the answer is what each entry opens to.
 pub fn approve<K: Kind>(read: &ReadFile, kind: &K, day: u32) -> Result<[Shape; PLACES], Fault>
     ensures answer { Answers (approving (K.Kind.numbered kind.now) K.Kind.meaning.admits day read.now.file) 12 result }
     ensures value { IfOk result (λ s. s ≡ openings_of read.now.file) }
     ensures known { IfOk result (λ s. Known read.now.file s) }
 {
     let shapes = openings(read);
-    ask(read, &shapes, kind, day)?;
+    ask_all(read, &shapes, kind, day)?;
     Ok(shapes)
 }

@@ -13,7 +13,7 @@ use crate::marks::Marks;
 use entries::Entry;
 
 /// The template at a place of the templates' chain, counted from 1, or 0 past its end.
-// Kept with 0 for none, as the file has it: the entry of number 0 is lost, so each look-up may be made of it.
+// Kept with 0 for none, as docs/file-format.md has a pointer: what is asked of the answer is asked of a pointer too.
 pub fn template_at(file: &File, place: u8) -> u16
     ensures { result ≡ chain file.now place }
 {

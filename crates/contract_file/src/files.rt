@@ -14,7 +14,7 @@ pub const MOST_TEMPLATES: usize = 16;
 pub const PLACES: usize = 257;
 
 /// What a contract file holds. Each entry stands at its number; the places past the last are lost.
-// Kept as a fixed table beside its count: nothing is allocated, a pointer is a number, and the head of the file tells the count.
+// Kept as a full table: each entry stands at its own number and all other places read as lost; `templates` is a pointer, 0 for none.
 #[derive(Clone, Copy)]
 pub struct File {
     pub kind: u8,

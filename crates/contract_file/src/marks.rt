@@ -32,7 +32,7 @@ impl Marks {
         requires { F.IsAlwaysCallable choose }
         ensures { Marked (F.post choose) self.old.marks entry number self.new.marks }
     {
-        // Kept as an index: of what is written through an array's `get_mut`, a proof knows nothing.
+        // Kept as a bound and an index: of what is written through an array's `get_mut`, a proof knows nothing.
         let place = usize::from(entry);
         if place < PLACES {
             self.marks[place] = Some(self.marks[place].map_or(number, |has| choose(has, number)));

@@ -22,6 +22,7 @@ pub fn later(a: Option<u32>, b: Option<u32>) -> Option<u32>
 }
 
 /// So many days after a base day, if that is a day that a record may bear.
+#[tactic(auto, unfolding(language::specs::Ends::up_to))]
 pub fn day_after(base: u32, days: u32) -> Option<u32>
     ensures { result ≡ up_to 65535 (base + days) }
 {

@@ -36,7 +36,6 @@ impl Counted {
 }
 
 impl Window {
-    // Kept as two names over one function: each end is asked for alone, and `day` has all that they share.
     /// The first day, by a base day.
     pub fn first_day(self, base: u32) -> u64
         ensures { result ≡ first (meant self) base }

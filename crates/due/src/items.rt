@@ -10,9 +10,11 @@ use terms::Node;
 pub(crate) const ITEM: usize = 3;
 
 /// A leaf's item: its step's entry, with the first and the last day of its window.
+// Kept as a triple: docs/DECISIONS.md has this form as asked for.
 pub(crate) type Item = (u16, u64, u64);
 
-/// The item of a leaf, by its step and its base day. An entry that is no step has no days.
+/// The item of a leaf, by its step and its base day.
+// Kept with days 0 for an entry that is no step, which no leaf of a term names: the triple is answered for every number.
 fn due_item(file: &File, step: u16, base: u32) -> Item
     ensures { result ≡ due_item file.now step base }
 {

@@ -13,7 +13,7 @@ use openings::{MOST_NODES, Openings};
 use terms::Table;
 
 /// Question 18 was answered no: has the lent list three places for each leaf?
-// Kept as a type of its own beside `TooLarge`: each call has this one way to fail.
+// Kept as a type of its own with the number of docs/questions.md: a call that can fail in one way says so.
 #[derive(Clone, Copy, Debug, PartialEq, Eq)]
 pub struct ShortList;
 
@@ -45,7 +45,7 @@ fn write_dues(dues: &[Item], list: &mut [u64])
     requires { 3 * length dues.now ≤ length list.old }
     ensures { list.new ≡ over (flat_map numbers dues.now) list.old }
 {
-    // Kept by place: what a list holds is not known once its chunks were lent out.
+    // Kept by place: of what is written through `chunks_exact_mut`, a proof knows nothing.
     for (leaf, (step, first, last)) in dues.iter().enumerate() {
         let place = ITEM * leaf;
         list[place..place + ITEM].copy_from_slice(&[u64::from(*step), *first, *last]);
@@ -53,6 +53,7 @@ fn write_dues(dues: &[Item], list: &mut [u64])
 }
 
 /// Writes what is due into a lent list and answers how many leaves there are.
+// Kept as a lent list with a count: docs/calls.md has the call so.
 /// Where the list is too short, it stays as it was.
 pub fn due_list(openings: &Openings, table: &Table, list: &mut [u64]) -> Result<usize, ShortList>
     ensures { (t : Term) → Holds openings.now.read.file table.now.items 0 t → length table.now.items ≡ nodes t → Listed t list.old list.new result }

@@ -4,7 +4,7 @@ use kinds::{Test, Value};
 
 /// An entry. A pointer is the number of another entry, and 0 is none.
 /// The clauses are `Lost` to `Call`; the others belong to a template, a step or a call.
-// Kept with 0 for no pointer, as the file has it: no entry has that number, so a look-up of it finds none by itself.
+// Kept with 0 for no pointer, as docs/file-format.md has it: place 0 of a file reads as lost.
 #[derive(Clone, Copy, Debug, PartialEq, Eq)]
 pub enum Entry {
     /// No list of records performs it.

@@ -27,7 +27,7 @@ impl Entry {
     }
 
     /// The next of a template, and 0 of anything else.
-    // Kept with 0 for none, as a pointer has it: what is asked of the answer is the entry that it leads to.
+    // Kept with 0 for none, as docs/file-format.md has a pointer.
     pub fn next_template(&self) -> u16
         ensures { result ≡ next_template self.now }
     {
@@ -38,7 +38,7 @@ impl Entry {
     }
 
     /// The sides of a choice, a both or a then; 0 is none.
-    // Kept with 0 for none, as a pointer has it: a mark put on entry 0 is no entry's.
+    // Kept with 0 for none, as docs/file-format.md has a pointer.
     pub fn sides(&self) -> (u16, u16)
         ensures { result ≡ sides self.now }
     {
@@ -51,7 +51,7 @@ impl Entry {
     }
 
     /// All pointers of an entry; 0 is none.
-    // Kept with 0 for none, as a pointer has it: a mark put on entry 0 is no entry's.
+    // Kept with 0 for none, as docs/file-format.md has a pointer.
     pub fn pointers(&self) -> (u16, u16)
         ensures { result ≡ pointers self.now }
     {

@@ -14,6 +14,7 @@ pub fn check_as(kind: u32, place: &mut Checked, bytes: &[u8], day: u32) -> Resul
     ensures answer { result ≡ (if kind == 2 then computed 2 inspections.admits day bytes.now else computed 1 transfers.admits day bytes.now) }
     ensures after { held place.new ≡ (if is_ok result then contents bytes.now day else held place.old) }
 {
+    // Kept as a number, and apart from the choice by names: the tables of cases tell a kind by the byte of a file.
     match kind {
         2 => check(place, bytes, &Inspections, day),
         _ => check(place, bytes, &Transfers, day),

@@ -32,6 +32,13 @@ impl Foreseen {
         Ok(Foreseen { prospect, day })
     }
 
+    /// What each entry opens to and when it can end, with the file.
+    pub fn prospect(&self) -> &Prospect
+        ensures { result.now ≡ self.now.prospect }
+    {
+        &self.prospect
+    }
+
     /// What each entry opens to, with the file.
     pub fn openings(&self) -> &Openings
         ensures { result.now ≡ self.now.prospect.openings }

@@ -19,7 +19,7 @@ pub const DAYS: usize = LAST_DAY as usize + 1;
 #[derive(Drop)]
 pub struct Horizon {
     pub(crate) spans: [Span; PLACES],
-    // Kept as one list of cells: a list for each row would take memory row by row, and `over` takes it all at once.
+    // Kept as one list of cells: a list of rows would pass each row of 256 KiB over the stack, or take memory for each anew.
     pub(crate) rows: Vec<Option<u16>>,
 }
 
@@ -33,7 +33,7 @@ impl Horizon {
         let spans = entry_spans(read);
         let rows = Vec::with_capacity(heap, usize::from(row_count(&spans)) * DAYS)?;
         let mut horizon = Horizon { spans, rows };
-        // Kept by number: an entry and its span stand at it in two tables, of which one is part of the file.
+        // Kept by number: behind a `zip` that goes backwards no proof of what is told closed.
         for number in (0..PLACES as u16).rev() {
             if let Span::ByDay(_) = span_at(&spans, number) {
                 horizon.push_row(file.at(number))?;

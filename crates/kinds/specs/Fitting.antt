@@ -9,8 +9,15 @@ use Rattle.kinds.specs.declared.fields.Test.{Test}
 use Rattle.kinds.specs.declared.fields.Field.{Field}
 use Rattle.kinds.specs.declared.rows.Filling.{Filling}
 use Rattle.kinds.specs.declared.rows.Value.{Value}
-use Rattle.kinds.specs.Rows.{signed_word, Row, Fits, zeros, value_of, fill_on, fill, listed_value, ListedArguments}
+use Rattle.kinds.specs.Rows.{word, signed_word, Row, Fits, zeros, value_of, fill_on, fill, listed_value, ListedArguments}
 use Rattle.kinds.specs.Fields.{filled_if, all_pass, all_filled, held}
+
+-- 32 bits as a test and as a bound
+pub word_lt : (n : ℕ) → word n ≡ true → n < 4294967296
+word_lt n e = grind (arith, nat_tests)
+
+pub lt_word : (n : ℕ) → n < 4294967296 → word n ≡ true
+lt_word n h = grind (arith, nat_tests)
 
 -- the two's complement of a signed number of 32 bits
 pub signed_lt : (z : ℤ) → signed_word z ≡ true → of_z w32 z < 4294967296

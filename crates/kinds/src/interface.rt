@@ -26,7 +26,7 @@ pub trait Kind {
         ensures { result ≡ numbered self.now };
 
     /// Whether a test is admitted on a field, 1 to 4.
-    // Kept as a number: a condition's entry in a contract file says its field by one byte.
+    // Kept as a number: docs/kinds.md numbers the fields of every kind from 1 to 4.
     fn admits(&self, field: u8, test: &Test) -> bool
         ensures { result ≡ meaning.admits field test.now };
 

@@ -49,7 +49,7 @@ pub(crate) fn slot(row: &Row, b: u8) -> u32
 pub fn put(row: &mut Row, slot: u8, number: u32)
     ensures { row.new ≡ slice_set row.old slot number }
 {
-    // Kept as a test and a write: nothing is known of a row once a place of it was lent.
+    // Kept as a bound and an index: of what is written through an array's `get_mut`, a proof knows nothing.
     let slot = usize::from(slot);
     if slot < SLOTS {
         row[slot] = number;

@@ -37,7 +37,7 @@ clause_shape calls (call k args) = of calls k
 abbrev pub Passed : File → List Shape → ℕ → List Shape → Type 0
 Passed f calls from s = (length s ≡ 257) × ((i : ℕ) → from ≤ i → of s i ≡ clause_shape calls (clause_at f i))
 
--- The table tells what each template opens to. There are sixteen, and none has the number 0.
+-- The table tells what each template opens to. There are sixteen; the body at number 0 is entry 0, which is lost.
 pub record Called (f : File) (s : List Shape) (calls : List Shape) : Type 0 where
   pub named : (k : ℕ) → k < 17 → of calls k ≡ of s (body_at f k)
   pub past : (k : ℕ) → 17 ≤ k → of calls k ≡ lost_shape

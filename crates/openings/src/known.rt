@@ -9,6 +9,7 @@ use crate::shapes::{Shape, shape_at};
 use contract_file::{File, PLACES, ReadFile};
 
 /// A read file with what each of its entries opens to, at its number: known once for each, whatever the row and the day.
+// Kept as a table beside the file's: a pointer finds an entry and what it opens to by the same number.
 #[derive(Drop)]
 pub struct Openings {
     pub(crate) read: ReadFile,

@@ -15,7 +15,7 @@ use std::array;
 const TEMPLATES: usize = MOST_TEMPLATES + 1;
 
 /// The body that a template points to, and 0 for anything else.
-// Kept with 0 for none, as a pointer has it: the entry of that number is lost, and so opens as no template does.
+// Kept with 0 for none, as a pointer has it: entry 0 reads as lost, which is what no template opens to.
 fn template_body(entry: Entry) -> u16
     ensures { result ≡ body_of «entry» }
 {
@@ -26,6 +26,7 @@ fn template_body(entry: Entry) -> u16
 }
 
 /// The entry of a template's body, or 0 where there is no such template.
+// Kept with 0 for none, as a pointer has it: entry 0 reads as lost, which is what no template opens to.
 pub fn body(file: &File, template: u8) -> u16
     ensures { result ≡ body_at file.now template }
 {

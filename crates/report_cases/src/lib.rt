@@ -74,7 +74,7 @@ pub const WHEELS: Contract = Contract {
 };
 
 /// A place past the end of each: nothing is changed.
-// Kept in the tables: tests keep their inputs as they were written.
+// Kept as a place that no file has: in a table it is plainer than an option at each edit.
 pub const NOWHERE: usize = 9999;
 
 /// Two bytes changed, and the report.

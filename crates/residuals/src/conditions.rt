@@ -9,7 +9,7 @@ use kinds::{Conditions, FIELDS, Test};
 fn put_test(tests: &mut [Option<Test>; FIELDS], field: u8, test: Test)
     ensures { tests.new ≡ slice_set tests.old (field - 1) (Some test) }
 {
-    // Kept as a bound and an index: nothing is proved of an array's elements behind `get_mut`.
+    // Kept as a bound and an index: of what is written through an array's `get_mut`, a proof knows nothing, and apart from `put`, whose places count from 0.
     let place = usize::from(field).saturating_sub(1);
     if place < FIELDS {
         tests[place] = Some(test);

@@ -1,4 +1,4 @@
-//! A term under a record's marks, and what its parts come to.
+//! A term under a record's marks.
 ghost use Rattle.std.specs.Prelude.{◌≡◌, ◌≤◌, length};
 
 use crate::marks::Mark;
@@ -6,7 +6,7 @@ use openings::Openings;
 use terms::Node;
 
 /// The nodes of a term with the marks of a record at their places, the record's day, and what the entries open to.
-// Kept beside the nodes, place by place: a side that stays is copied as a slice of nodes.
+// Kept with the marks beside the nodes: docs/DECISIONS.md asks for plain nodes, of which a slice can be copied.
 #[derive(Clone, Copy)]
 pub(crate) struct Marked<'a> {
     pub(crate) openings: &'a Openings,

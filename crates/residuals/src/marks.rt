@@ -58,6 +58,7 @@ pub(crate) fn marks_of<K: Kind>(
     ensures { take (length nodes.now) result ≡ map (mark_of K.Kind.meaning file.now r.now) nodes.now }
 {
     let mut marks = [None; MOST_NODES];
+    // Kept by index: docs/DECISIONS.md has this loop as asked for.
     for (at, node) in nodes.iter().enumerate() {
         marks[at] = mark_of(kind, file, r, node);
     }

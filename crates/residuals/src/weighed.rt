@@ -61,6 +61,7 @@ impl Marked<'_> {
 }
 
 /// A marked term with the weights of the terms at its places.
+// Kept with the weights beside the nodes: docs/DECISIONS.md asks for plain nodes, of which a slice can be copied.
 #[derive(Clone, Copy)]
 pub(crate) struct Weighed<'a> {
     pub(crate) marked: Marked<'a>,

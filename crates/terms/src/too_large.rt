@@ -7,6 +7,7 @@ pub struct TooLarge;
 
 impl TooLarge {
     /// The number of the question.
+    // Kept as a number: docs/questions.md gives each question its own.
     pub fn number(&self) -> u8
         ensures { result ≡ 17 }
     {

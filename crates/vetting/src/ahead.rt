@@ -13,14 +13,14 @@ const PLACES: usize = NUMBERS * MOST_NODES;
 fn due(heap: Global, held: &Held, day: u32) -> Result<String, AllocError> {
     // Kept as a list with its count beside it: the running contract writes into memory that is lent, and allocates nothing.
     let mut list = [0; PLACES];
-    // Kept as 0 for a list that is too short, which this one never is: no term has more leaves than nodes.
+    // Kept as 0 for a list that is too short: that no term has more leaves than nodes is not in a contract of `Held`.
     let leaves = held.due_list(&mut list).unwrap_or(0);
     if leaves == 0 {
         return String::from_str(heap, "due: nothing\n");
     }
     let mut text = String::new(heap);
-    let (leaves_due, _) = list.as_chunks::<NUMBERS>();
-    for [entry, first, last] in leaves_due.iter().take(leaves) {
+    let (items, _) = list.as_chunks::<NUMBERS>();
+    for [entry, first, last] in items.iter().take(leaves) {
         let past = if *last < u64::from(day) {
             ", which is past"
         } else {

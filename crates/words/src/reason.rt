@@ -142,30 +142,25 @@ impl Reason<'_> {
     }
 
     fn window<W: fmt::Write>(&self, i: u16, f: &mut fmt::Formatter<W>) -> fmt::Result {
-        match self.entry(i) {
-            Some(
-                Entry::Step {
-                    window: Window { first, last, .. },
-                    ..
-                },
-            ) if first > last => write!(
+        let Some(Entry::Step { window, .. }) = self.entry(i) else {
+            return write!(f, "entry {i} has no right window");
+        };
+        let Window { first, last, .. } = window;
+        if first > last {
+            write!(
                 f,
                 "entry {i}, a step, has its first day {first} after its last day {last}"
-            ),
-            Some(
-                Entry::Step {
-                    window: Window { last, .. },
-                    ..
-                },
-            ) if last > LAST_DAY => write!(
+            )
+        } else if last > LAST_DAY {
+            write!(
                 f,
                 "entry {i}, a step, has its last day {last} after the last day there is, {LAST_DAY}"
-            ),
-            Some(Entry::Step { .. }) => write!(
+            )
+        } else {
+            write!(
                 f,
                 "entry {i}, a step by the calendar, is reached from the body of a template"
-            ),
-            _ => write!(f, "entry {i} has no right window"),
+            )
         }
     }
 

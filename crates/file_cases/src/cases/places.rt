@@ -32,33 +32,30 @@ static MONTHLY: &[u8] = b"\
 
 /// Are these entries of File A?
 fn is_file_a(file: &File) -> bool {
-    let step = matches!(
-        file.at(1),
-        Entry::Step {
-            window: Window {
-                counted: Counted::FromBase,
-                first: 0,
-                last: 14,
-            },
-            tail: 2,
-            conditions: 4,
-        }
-    );
-    let amount = matches!(
-        file.at(10),
-        Entry::Condition {
-            field: 4,
-            test: Test::Equals(500),
-            next: 0,
-        }
-    );
-    step & amount & matches!(file.at(3), Entry::Done) & matches!(file.at(11), Entry::Lost)
+    let step = Entry::Step {
+        window: Window {
+            counted: Counted::FromBase,
+            first: 0,
+            last: 14,
+        },
+        tail: 2,
+        conditions: 4,
+    };
+    let amount = Entry::Condition {
+        field: 4,
+        test: Test::Equals(500),
+        next: 0,
+    };
+    file.at(1) == step
+        && file.at(10) == amount
+        && file.at(3) == Entry::Done
+        && file.at(11) == Entry::Lost
 }
 
 #[test]
 fn new_place(rt: HostRuntime) {
     let place = Checked::new();
-    assert_eq!(rt; matches!(place.file().at(1), Entry::Lost), true);
+    assert_eq!(rt; place.file().at(1), Entry::Lost);
     assert_eq!(rt; held(&place), [1, 1, 0, 1, 0, 1]);
 }
 

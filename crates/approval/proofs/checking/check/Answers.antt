@@ -19,21 +19,21 @@ returns-in_err-read g c =
     let p = err_from_is_err_and c.from_residual.result c.from_residual.ensures.1 in
     rw (p.1, p.2) (record { answer = answer; value = is_computed number admits day c.args.bytes.now (Err _) answer; after = refl })
 
-pub returns-in_err-ask : goal.returns-in_err-ask
-returns-in_err-ask g c =
+pub returns-in_err-ask_all : goal.returns-in_err-ask_all
+returns-in_err-ask_all g c =
     let number = g.K.Kind.numbered c.args.kind.now in
     let admits = g.K.Kind.meaning.admits in
     let day = c.args.day in
     let same = c.read-2.ensures ∙ c.of-openings.ensures.same ∙ c.in_ok-read.ensures.after in
-    let refused = subst (λ (f : File). Refused (approving number admits day f) 12 c.in_err-ask.field-0.0) same c.in_err-ask.ensures in
+    let refused = subst (λ (f : File). Refused (approving number admits day f) 12 c.in_err-ask_all.field-0.0) same c.in_err-ask_all.ensures in
     let answer = refused_approving number admits day c.args.bytes.now _ c.in_ok-read.ensures.answer refused in
-    let p = err_from_is_err_and c.from_residual-in_err-ask.result c.from_residual-in_err-ask.ensures.1 in
+    let p = err_from_is_err_and c.from_residual-in_err-ask_all.result c.from_residual-in_err-ask_all.ensures.1 in
     rw (p.1, p.2) (record { answer = answer; value = is_computed number admits day c.args.bytes.now (Err _) answer; after = refl })
 
 -- behind all questions, the contract is small and the day early
 pub invariant_of-place : goal.invariant_of-place
 invariant_of-place g c =
-    let passed = c.in_ok-ask.ensures in
+    let passed = c.in_ok-ask_all.ensures in
     let day = c.args.day in
     record {
       early = passed 11 (omega arith) 0 refl;
@@ -47,7 +47,7 @@ returns g c =
     let day = c.args.day in
     let opened = c.of-openings.ensures in
     let read = c.in_ok-read.ensures in
-    let passed = subst (λ (f : File). Below (approving number admits day f) 12) (c.read-2.ensures ∙ opened.same ∙ read.after) c.in_ok-ask.ensures in
+    let passed = subst (λ (f : File). Below (approving number admits day f) 12) (c.read-2.ensures ∙ opened.same ∙ read.after) c.in_ok-ask_all.ensures in
     let answer = all_pass number admits day c.args.bytes.now read.answer passed in
     record {
       answer = answer;
