@@ -30,6 +30,7 @@ fn hand_on(lowest: &mut Marks, entry: u16, onward: (u16, u16))
 }
 
 /// The lowest template that reaches each entry, if one does: from its body on by the pointers that `onward` gives.
+// Kept as a clause that the questions ask for: marks of both ways are of one type, and each question names its own way.
 pub(crate) fn lowest<F: Fn(&Entry) -> (u16, u16)>(leading: &LeadingFile, onward: F) -> Marks
     ghost way: { Entry → ℕ × ℕ }
     requires callable { F.IsAlwaysCallable onward }

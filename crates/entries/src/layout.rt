@@ -81,6 +81,7 @@ fn counted(k: u8) -> Option<Counted>
     }
 }
 
+// Kept in each contract that what is read is listed: each part tells it of its own, and no proof of it is written.
 fn step(f: Fields) -> Option<Entry>
     ensures value { result ≡ step_of f }
     ensures listed { ListedIf result }

@@ -78,6 +78,7 @@ fn run_case(rt: &impl Abort, heap: Global, place: &mut Checked, line: &str) -> R
         panic!(rt; "a part is missing: {line}");
     };
     let bytes = file_bytes(heap, head, entries)?;
+    // Kept with 0 for what is left out: the tables of cases are written so.
     let [question, entry, ..] = told.map(|number| number.unwrap_or(0));
     let [kind, _, count, templates, contract, day, _, other] = head.map(|number| number.unwrap_or(
         0,

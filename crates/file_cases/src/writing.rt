@@ -23,6 +23,7 @@ pub fn parts(heap: Global, line: &[u8]) -> Result<Vec<Numbers>, AllocError> {
 }
 
 /// The bytes of a head, which are also those of the first five numbers of an entry.
+// Kept as shifts: fields of one, one, two, two and two bytes are no array of like numbers.
 fn first_bytes(numbers: [u32; 8]) -> [u8; 8] {
     let [tag, k, a, b, next, ..] = numbers;
     let high = u64::from(tag) << 56 | u64::from(k) << 48 | u64::from(a) << 32;

@@ -69,6 +69,7 @@ impl Foreseen {
     }
 
     /// How many nodes the contract has when it is opened on the signing day.
+    // Kept beside that of `Checked`, which is spent on this: either is asked alone.
     pub fn nodes(&self) -> u16
         ensures { result ≡ nodes (contract_opened self.now.prospect.openings.read.file self.now.day) }
     {

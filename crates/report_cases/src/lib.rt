@@ -257,6 +257,7 @@ fn changed(
     Ok(bytes)
 }
 
+// Kept as parameters: a test reads as its case is written.
 /// The report on a contract with some bytes changed.
 pub fn edited(
     heap: Global,

@@ -10,6 +10,7 @@ use crate::weighed::Weighed;
 use terms::{Node, Table, open_clause};
 
 impl Weighed<'_> {
+    // Kept in three contracts that the place is ready and that there is room: each asks it of another place and another size.
     /// Writes what is left of the term at a place.
     #[cycle(build_build_both_build_side)]
     #[tactic(auto, using(crate::proofs::Resting::left_some))]

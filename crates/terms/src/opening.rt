@@ -19,6 +19,7 @@ use openings::{MOST_NODES, Openings, body};
 /// Each call names a template below this.
 const ABOVE_TEMPLATES: u8 = MOST_TEMPLATES as u8 + 1;
 
+// Kept as parameters: a call goes on from a row of its own, and what stays the same is passed on as it is.
 /// Writes what the clause of an entry opens to, from a row and on a base day. Its bare calls name templates below `level`.
 #[cycle(open_call_open_from)]
 #[tactic(auto, using(crate::proofs::Writing::some_nodes))]

@@ -10,6 +10,8 @@ use Rattle.contract_file.specs.Files.{bytes_of}
 use Rattle.contract_file.proofs.Filled.{Filled, next_bytes, none_filled, one_filled, all_filled, all_listed}
 use Rattle.contract_file.proofs.reading.table.Goals as goal
 
+-- Kept in each answer: each has a view of the function's steps of its own, to which the lemma has to be applied.
+
 pub loop-i-init : goal.loop-i-init
 loop-i-init c =
     let b = c.args.bytes.now in

@@ -12,6 +12,8 @@ use Rattle.terms.proofs.Planning.{plans, sound_file}
 use Rattle.terms.proofs.Writing.{some_nodes, longer, retold, write_lost, write_done, write_leaf, write_choice, write_both, write_follow}
 use Rattle.terms.proofs.opening.+open_call_open_from.Goals as goal
 
+-- Kept in each answer: each has a view of the function's steps of its own, to which the lemma has to be applied.
+
 pub open_call-open_from-requires : goal.open_call-open_from-requires
 open_call-open_from-requires t c =
     let f = c.args.openings.now.read.file in

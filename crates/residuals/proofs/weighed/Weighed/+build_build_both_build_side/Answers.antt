@@ -10,6 +10,8 @@ use Rattle.residuals.proofs.Copying.{copied}
 use Rattle.residuals.proofs.Resting.{rests, either_written, halved, whole, in_table, left_size, side_size, both_size}
 use Rattle.residuals.proofs.weighed.Weighed.+build_build_both_build_side.Goals as goal
 
+-- Kept in each answer: each has a view of the function's steps of its own, to which the lemma has to be applied.
+
 pub build-push-requires-in-Skip-2 : goal.build-push-requires-in-Skip-2
 build-push-requires-in-Skip-2 t c =
     let v = c.args.self.now in
