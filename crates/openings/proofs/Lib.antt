@@ -1,6 +1,5 @@
 pub mod Downward
 pub mod Facts
-pub mod Tidying
 pub mod Shaping
 pub mod Unfolding
 pub mod Guarding

@@ -11,7 +11,6 @@ use Rattle.openings.specs.declared.shapes.Tidied.TheVariants as tidied
 use Rattle.openings.specs.declared.shapes.Followed.{Followed}
 use Rattle.openings.specs.declared.shapes.Followed.TheVariants as follows
 use Rattle.openings.specs.Shapes.{shape_of, size, lost, done, ends, lost_shape, choice_node, both_node, follow_node, tidied_choice, tidied_both, followed, by_sides, by_both, by_followed, choice_shape, both_shape, follow_shape, then_shape}
-use Rattle.openings.proofs.Tidying as cases
 
 pub lost_is : (t : Term) → lost (shape_of t) ≡ is_lost t
 lost_is Done = refl
@@ -93,22 +92,24 @@ module _ (l r : Term) where
     done_r = sym (ap done q ∙ done_is r)
 
     pub choice_leaves : ChoiceLeaves (tidied_choice a b)
+    unfolding choice_of
     choice_leaves =
         cond_both (lost a) _ _ ChoiceLeaves
-        (λ e. cases.choice_right l r (gone_l ∙ e))
+        (λ e. rw (gone_l ∙ e))
         (λ e. cond_both (lost b) _ _ ChoiceLeaves
-        (λ g. cases.choice_left l r (gone_l ∙ e) (gone_r ∙ g))
-        (λ g. cases.choice_both l r (gone_l ∙ e) (gone_r ∙ g)))
+        (λ g. rw (gone_l ∙ e, gone_r ∙ g))
+        (λ g. rw (gone_l ∙ e, gone_r ∙ g)))
 
     pub both_leaves : BothLeaves (tidied_both a b)
+    unfolding both_of
     both_leaves =
         cond_both (lost a || lost b) _ _ BothLeaves
-        (λ e. cases.both_lost l r (gone ∙ e))
+        (λ e. rw (gone ∙ e))
         (λ e. cond_both (done a) _ _ BothLeaves
-        (λ g. cases.both_right l r (gone ∙ e) (done_l ∙ g))
+        (λ g. rw (gone ∙ e, done_l ∙ g))
         (λ g. cond_both (done b) _ _ BothLeaves
-        (λ h. cases.both_left l r (gone ∙ e) (done_l ∙ g) (done_r ∙ h))
-        (λ h. cases.both_both l r (gone ∙ e) (done_l ∙ g) (done_r ∙ h))))
+        (λ h. rw (gone ∙ e, done_l ∙ g, done_r ∙ h))
+        (λ h. rw (gone ∙ e, done_l ∙ g, done_r ∙ h))))
 
   pub choice_shape_is : shape_of (choice_of l r) ≡ choice_shape (shape_of l) (shape_of r)
   choice_shape_is = by _ (choice_leaves _ _ refl refl)
@@ -136,19 +137,20 @@ module _ (t : Term) (c : Clause) (row : Row) (o : Term) where
   ThenLeaves (Some follows.Skip) = then_of t c row o ≡ Choice (Follow t c row) o
 
   pub then_leaves : (a b : Shape) → a ≡ shape_of t → b ≡ shape_of o → ThenLeaves (followed a b)
+  unfolding then_of follow_of choice_of
   then_leaves a b p q =
       let ends_t : may_end t ≡ ends a = sym (ap ends p ∙ ends_is t) in
       let empty : (is_done t || is_lost t) ≡ (done a || lost a) = ap₂ ◌||◌ (sym (ap done p ∙ done_is t)) (sym (ap lost p ∙ lost_is t)) in
       let gone_o : is_lost o ≡ lost b = sym (ap lost q ∙ lost_is o) in
       cond_both (ends a) _ _ ThenLeaves
       (λ e. cond_both (done a || lost a) _ _ ThenLeaves
-      (λ g. cases.then_open t c row o (ends_t ∙ e) (empty ∙ g))
+      (λ g. rw (ends_t ∙ e, empty ∙ g))
       (λ g. cond_both (lost b) _ _ ThenLeaves
-      (λ h. cases.then_only t c row o (ends_t ∙ e) (empty ∙ g) (gone_o ∙ h))
-      (λ h. cases.then_skip t c row o (ends_t ∙ e) (empty ∙ g) (gone_o ∙ h))))
+      (λ h. rw (ends_t ∙ e, empty ∙ g, gone_o ∙ h))
+      (λ h. rw (ends_t ∙ e, empty ∙ g, gone_o ∙ h))))
       (λ e. cond_both (done a || lost a) _ _ ThenLeaves
-      (λ g. cases.then_lost t c row o (ends_t ∙ e) (empty ∙ g))
-      (λ g. cases.then_follow t c row o (ends_t ∙ e) (empty ∙ g)))
+      (λ g. rw (ends_t ∙ e, empty ∙ g))
+      (λ g. rw (ends_t ∙ e, empty ∙ g)))
 
   pub then_shape_is : shape_of (then_of t c row o) ≡ then_shape (shape_of t) (shape_of o)
   then_shape_is = by _ (then_leaves _ _ refl refl)

@@ -9,7 +9,6 @@ use Rattle.openings.specs.declared.shapes.Followed.{Followed}
 use Rattle.openings.specs.declared.shapes.Followed.TheVariants as behind
 use Rattle.openings.specs.Clauses.{clause_at, templates_of}
 use Rattle.openings.specs.Shapes.{shape_of, tidied_both, by_sides, by_followed, both_shape}
-use Rattle.openings.specs.Rounds.{of}
 use Rattle.openings.proofs.Shaping.{size_is, both_shape_is, ChoiceLeaves, choice_leaves, BothLeaves, both_leaves, ThenLeaves, then_leaves}
 use Rattle.openings.specs.Shapes as shapes
 use Rattle.terms.specs.declared.nodes.Node.{Node}

@@ -3,7 +3,7 @@ use Rattle.std.proofs.Common.{◌≡◌, ℕ, ◌<◌, ◌≤◌, min, List, Som
 use Rattle.kinds.specs.declared.fields.Conditions.{Conditions}
 use Rattle.kinds.specs.Rows.{Row, fill}
 use Rattle.language.specs.Clauses.{Window, Clause, step, body}
-use Rattle.language.specs.Terms.{Term, Done, Lost, Choice, Both, Follow, is_lost, is_done, may_end, nodes, choice_of, both_of, then_of, opened, BareBelow}
+use Rattle.language.specs.Terms.{Term, Done, Lost, Choice, Both, Follow, nodes, choice_of, both_of, then_of, opened, BareBelow}
 use Rattle.language.proofs.Depth.{opening_rules}
 use Rattle.entries.specs.declared.entries.Entry.{Entry}
 use Rattle.entries.specs.declared.entries.Entry.TheVariants as entries
