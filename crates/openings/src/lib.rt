@@ -9,4 +9,4 @@ mod shapes;
 pub use known::Openings;
 pub use passes::fill_from_last;
 pub use rounds::{body, openings};
-pub use shapes::{MOST_NODES, Shape, shape_at};
+pub use shapes::{Followed, MOST_NODES, Shape, Tidied, shape_at};

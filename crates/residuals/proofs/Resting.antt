@@ -1,20 +1,21 @@
 -- What is written for what is left of a term is what is left of it.
-use Rattle.std.proofs.Common.{◌≡◌, ℕ, ◌+◌, ◌<◌, ◌≤◌, min, ◌||◌, List, [], ◌∷◌, ◌++◌, length, get_or, Some, None, Option, sym, refl, ap, ◌∙◌, subst, ap₂, arith}
+use Rattle.std.proofs.Common.{◌≡◌, ℕ, ◌+◌, ◌<◌, ◌≤◌, min, List, [], ◌∷◌, ◌++◌, length, get_or, Some, None, Option, sym, refl, ap, ◌∙◌, subst, ap₂, arith}
 use Rattle.kinds.specs.Rows.{Row}
-use Rattle.language.specs.Terms.{Term, Lost, Choice, Both, Follow, nodes, is_lost, is_done, may_end, choice_of, both_of, then_of, opened}
-use Rattle.std.proofs.lemmas.Bool.{cond_both}
+use Rattle.language.specs.Terms.{Term, Lost, Choice, Both, Follow, nodes, choice_of, both_of, then_of, opened}
 use Rattle.openings.specs.declared.shapes.Shape.{Shape}
+use Rattle.openings.specs.declared.shapes.Tidied.{Tidied}
+use Rattle.openings.specs.declared.shapes.Tidied.TheVariants as tidied
+use Rattle.openings.specs.declared.shapes.Followed.{Followed}
+use Rattle.openings.specs.declared.shapes.Followed.TheVariants as behind
 use Rattle.openings.specs.Clauses.{clause_at, templates_of}
-use Rattle.openings.specs.Shapes.{shape_of, both_shape}
-use Rattle.openings.specs.Rounds.{of}
-use Rattle.openings.proofs.Shaping.{lost_is, done_is, ends_is, size_is, both_shape_is}
+use Rattle.openings.specs.Shapes.{shape_of, tidied_both, by_sides, by_followed, both_shape}
+use Rattle.openings.proofs.Shaping.{size_is, both_shape_is, ChoiceLeaves, choice_leaves, BothLeaves, both_leaves, ThenLeaves, then_leaves}
 use Rattle.openings.specs.Shapes as shapes
 use Rattle.terms.specs.declared.nodes.Node.{Node}
 use Rattle.terms.specs.declared.nodes.Node.TheVariants as node
 use Rattle.terms.specs.Tables.{Wrote}
 use Rattle.terms.proofs.Viewing.{view, Sides, Under, Open}
 use Rattle.terms.proofs.Writing.{some_nodes, held_within, retold, write_choice}
-use Rattle.terms.proofs.Tidied as tidied
 use Rattle.residuals.specs.declared.marks.Next.{Next}
 use Rattle.residuals.specs.declared.marked.Marked.{Marked}
 use Rattle.residuals.specs.declared.weights.Weight.{Weight}
@@ -23,34 +24,10 @@ use Rattle.residuals.specs.declared.rests.Side.{Side}
 use Rattle.residuals.specs.declared.rests.Side.TheVariants as side
 use Rattle.residuals.specs.declared.rests.Rest.{Rest}
 use Rattle.residuals.specs.declared.rests.Rest.TheVariants as rest
-use Rattle.residuals.specs.declared.rests.Half.{Half}
-use Rattle.residuals.specs.declared.rests.Half.TheVariants as half
 use Rattle.residuals.specs.Marked.{file_of, nodes_of, Stands, mark_at, opened_if, left}
 use Rattle.residuals.specs.Weights.{weight_of, weight_in}
-use Rattle.residuals.specs.Rests.{Ready, left_of, place, side_term, side_shape, half_by, leaf_rest, choice_rest, both_rest, follow_rest, second_at, rest_by, BuildsBoth}
+use Rattle.residuals.specs.Rests.{Ready, left_of, place, side_term, side_shape, leaf_rest, choice_rest, both_rest, follow_rest, second_at, rest_by, BuildsBoth}
 use Rattle.residuals.proofs.Weighing.{opens}
-
--- a both of two terms
-module _ (l r : Term) where
-  abbrev pub Halved : Half → Type 0
-  Halved half.Lost = both_of l r ≡ Lost
-  Halved half.Left = both_of l r ≡ l
-  Halved half.Right = both_of l r ≡ r
-  Halved half.Both = both_of l r ≡ Both l r
-
-  -- by their shapes
-  halved_by : (a b : Shape) → a ≡ shape_of l → b ≡ shape_of r → Halved (half_by a b)
-  halved_by a b p q =
-      let lost : (is_lost l || is_lost r) ≡ (shapes.lost a || shapes.lost b) = ap₂ ◌||◌ (sym (ap shapes.lost p ∙ lost_is l)) (sym (ap shapes.lost q ∙ lost_is r)) in
-      let done_l : is_done l ≡ shapes.done a = sym (ap shapes.done p ∙ done_is l) in
-      let done_r : is_done r ≡ shapes.done b = sym (ap shapes.done q ∙ done_is r) in
-      cond_both (shapes.lost a || shapes.lost b) _ _ Halved
-      (λ e. tidied.both_lost l r (lost ∙ e))
-      (λ e. cond_both (shapes.done a) _ _ Halved
-      (λ g. tidied.both_right l r (lost ∙ e) (done_l ∙ g))
-      (λ g. cond_both (shapes.done b) _ _ Halved
-      (λ h. tidied.both_left l r (lost ∙ e) (done_l ∙ g) (done_r ∙ h))
-      (λ h. tidied.both_both l r (lost ∙ e) (done_l ∙ g) (done_r ∙ h))))
 
 module _ (w : Weighed) where
   abbrev m : Marked
@@ -103,9 +80,14 @@ module _ (w : Weighed) where
   pub both_some : (l r : Side) (x : Ready w (place l)) (y : Ready w (place r)) → 0 < shapes.size (both_shape (side_shape weights l) (side_shape weights r))
   both_some l r x y = omega (arith, both_size l r x y, some_nodes (both_of (side_term l x) (side_term r y)))
 
-  pub halved : (l r : Side) (x : Ready w (place l)) (y : Ready w (place r)) (a b : Shape) (h : Half) → h ≡ half_by a b
-      → a ≡ side_shape weights l → b ≡ side_shape weights r → Halved (side_term l x) (side_term r y) h
-  halved l r x y a b h e p q = subst (Halved (side_term l x) (side_term r y)) (sym e) (halved_by _ _ a b (p ∙ sided l x) (q ∙ sided r y))
+  pub halved : (l r : Side) (x : Ready w (place l)) (y : Ready w (place r)) (a b : Shape) (h : Option Tidied) → h ≡ tidied_both a b
+      → a ≡ side_shape weights l → b ≡ side_shape weights r → BothLeaves (side_term l x) (side_term r y) h
+  halved l r x y a b h e p q =
+      subst (BothLeaves (side_term l x) (side_term r y)) (sym e) (both_leaves (side_term l x) (side_term r y) a b (p ∙ sided l x) (q ∙ sided r y))
+
+  pub halved_some : (l r : Side) (x : Ready w (place l)) (y : Ready w (place r)) (a b : Shape) (k h : Tidied) → h ≡ k → Some h ≡ tidied_both a b
+      → a ≡ side_shape weights l → b ≡ side_shape weights r → BothLeaves (side_term l x) (side_term r y) (Some k)
+  halved_some l r x y a b k h e is p q = halved l r x y a b (Some k) (sym (ap (λ (h : Tidied). Some h) e) ∙ is) p q
 
   -- a side that stays as it stands
   pub record Whole (p : ℕ) (t : Term) : Type 0 where
@@ -187,13 +169,13 @@ module _ (w : Weighed) where
         let l' = left_of l in
         let r' = left_of r in
         let is : left_of x ≡ choice_of l' r' = ap (left m at) v.is ∙ ap (choice_of l') (moves Choice (λ l r. refl) v) in
-        let gone_l : is_lost l' ≡ shapes.lost (weight_in weights (at + 1)).left = sym (ap shapes.lost (left_shape _ l) ∙ lost_is l') in
-        let gone_r : is_lost r' ≡ shapes.lost (weight_in weights (second_at weights at)).left = sym (ap shapes.lost (left_shape _ r) ∙ lost_is r') in
-        cond_both (shapes.lost (weight_in weights (at + 1)).left) _ _ Rested
-        (λ a. record { part = r; low = omega (arith, ps.between); is = is ∙ tidied.choice_right _ _ (gone_l ∙ a) })
-        (λ a. cond_both (shapes.lost (weight_in weights (second_at weights at)).left) _ _ Rested
-        (λ b. record { part = l; low = omega arith; is = is ∙ tidied.choice_left _ _ (gone_l ∙ a) (gone_r ∙ b) })
-        (λ b. record { parts = ps; is = is ∙ tidied.choice_both _ _ (gone_l ∙ a) (gone_r ∙ b) }))
+        by ps _ is (choice_leaves l' r' _ _ (left_shape _ l) (left_shape _ r))
+      where
+        by : {p q : ℕ} (ps : Parts p q) (k : Tidied) → left_of x ≡ choice_of (left_of ps.left) (left_of ps.right) → ChoiceLeaves (left_of ps.left) (left_of ps.right) k
+            → Rested (by_sides (rest.Only p) (rest.Only q) (rest.Choice p q) k)
+        by ps tidied.Left is e = record { part = ps.left; low = ps.low; is = is ∙ e }
+        by ps tidied.Right is e = record { part = ps.right; low = omega (arith, ps.low, ps.between); is = is ∙ e }
+        by ps tidied.Whole is e = record { parts = ps; is = is ∙ e }
 
     both_rested : Sides (file_of m) (nodes_of m) at Both x.term → Rested (both_rest weights (at + 1) (second_at weights at))
     unfolding left left_ready right_ready parts
@@ -203,17 +185,19 @@ module _ (w : Weighed) where
         let ps = parts Both (λ l r. refl) v in
         let l' = left_of l in
         let r' = left_of r in
-        let first = both_shape (weight_in weights (at + 1)).left (weight_in weights (second_at weights at)).held in
-        let other = both_shape (weight_in weights (at + 1)).held (weight_in weights (second_at weights at)).left in
         let is : left_of x ≡ choice_of (both_of l' r.term) (both_of l.term r') =
         ap (left m at) v.is ∙ ap (λ z. choice_of (both_of l' r.term) (both_of l.term z)) (moves Both (λ l r. refl) v) in
-        let gone_l : is_lost (both_of l' r.term) ≡ shapes.lost first = sym (ap shapes.lost (ap₂ both_shape (left_shape _ l) (held_shape _ r) ∙ sym (both_shape_is l' r.term)) ∙ lost_is (both_of l' r.term)) in
-        let gone_r : is_lost (both_of l.term r') ≡ shapes.lost other = sym (ap shapes.lost (ap₂ both_shape (held_shape _ l) (left_shape _ r) ∙ sym (both_shape_is l.term r')) ∙ lost_is (both_of l.term r')) in
-        cond_both (shapes.lost first) _ _ Rested
-        (λ a. record { parts = ps; is = is ∙ tidied.choice_right _ _ (gone_l ∙ a) })
-        (λ a. cond_both (shapes.lost other) _ _ Rested
-        (λ b. record { parts = ps; is = is ∙ tidied.choice_left _ _ (gone_l ∙ a) (gone_r ∙ b) })
-        (λ b. record { parts = ps; is = is ∙ tidied.choice_both _ _ (gone_l ∙ a) (gone_r ∙ b) }))
+        by ps _ is (choice_leaves (both_of l' r.term) (both_of l.term r') _ _
+        (ap₂ both_shape (left_shape _ l) (held_shape _ r) ∙ sym (both_shape_is l' r.term))
+        (ap₂ both_shape (held_shape _ l) (left_shape _ r) ∙ sym (both_shape_is l.term r')))
+      where
+        by : {p q : ℕ} (ps : Parts p q) (k : Tidied)
+            → left_of x ≡ choice_of (both_of (left_of ps.left) ps.right.term) (both_of ps.left.term (left_of ps.right))
+            → ChoiceLeaves (both_of (left_of ps.left) ps.right.term) (both_of ps.left.term (left_of ps.right)) k
+            → Rested (by_sides (rest.Both (side.Taken p) (side.Kept q)) (rest.Both (side.Kept p) (side.Taken q)) (rest.Either p q) k)
+        by ps tidied.Left is e = record { parts = ps; is = is ∙ e }
+        by ps tidied.Right is e = record { parts = ps; is = is ∙ e }
+        by ps tidied.Whole is e = record { parts = ps; is = is ∙ e }
 
     leaf_rested : (s base : ℕ) (row : Row) → Open (file_of m) (nodes_of m) at s row base x.term → Rested (leaf_rest (mark_at m at))
     unfolding left
@@ -228,19 +212,17 @@ module _ (w : Weighed) where
 
     then_rested : (s : ℕ) (row : Row) (y : Ready w (at + 1)) (l : Shape) → l ≡ shape_of (left_of y) → left_of x ≡ then_of (left_of y) (clause_at (file_of m) s) row (again s row)
         → Rested (follow_rest m l (record { clause = s; row = row }))
-    then_rested s row y l w is =
-        let ends : may_end (left_of y) ≡ shapes.ends l = sym (ap shapes.ends w ∙ ends_is (left_of y)) in
-        let empty : (is_done (left_of y) || is_lost (left_of y)) ≡ (shapes.done l || shapes.lost l) = ap₂ ◌||◌ (sym (ap shapes.done w ∙ done_is (left_of y))) (sym (ap shapes.lost w ∙ lost_is (left_of y))) in
-        let gone : is_lost (again s row) ≡ shapes.lost (of m.openings.now.shapes s) = sym (ap shapes.lost (opens m s row m.day) ∙ lost_is (again s row)) in
-        cond_both (shapes.ends l) _ _ Rested
-        (λ a. cond_both (shapes.done l || shapes.lost l) _ _ Rested
-        (λ b. is ∙ tidied.then_open (left_of y) _ row (again s row) (ends ∙ a) (empty ∙ b))
-        (λ b. cond_both (shapes.lost (of m.openings.now.shapes s)) _ _ Rested
-        (λ d. record { part = y; is = is ∙ tidied.then_only (left_of y) _ row (again s row) (ends ∙ a) (empty ∙ b) (gone ∙ d) })
-        (λ d. record { part = y; is = is ∙ tidied.then_skip (left_of y) _ row (again s row) (ends ∙ a) (empty ∙ b) (gone ∙ d) })))
-        (λ a. cond_both (shapes.done l || shapes.lost l) _ _ Rested
-        (λ b. is ∙ tidied.then_lost (left_of y) _ row (again s row) (ends ∙ a) (empty ∙ b))
-        (λ b. record { part = y; is = is ∙ tidied.then_follow (left_of y) _ row (again s row) (ends ∙ a) (empty ∙ b) }))
+    then_rested s row y l w is = by _ (then_leaves (left_of y) (clause_at (file_of m) s) row (again s row) _ _ w (opens m s row m.day))
+      where
+        next : Next
+        next = record { clause = s; row = row }
+
+        by : (k : Option Followed) → ThenLeaves (left_of y) (clause_at (file_of m) s) row (again s row) k
+            → Rested (by_followed rest.Lost (rest.Open next) (rest.Follow next) (rest.Skip next) k)
+        by None e = is ∙ e
+        by (Some behind.Clause) e = is ∙ e
+        by (Some behind.Follow) e = record { part = y; is = is ∙ e }
+        by (Some behind.Skip) e = record { part = y; is = is ∙ e }
 
     follow_rested : (s : ℕ) (row : Row) → Under (file_of m) (nodes_of m) at s row x.term → Rested (follow_rest m (weight_in weights (at + 1)).left (record { clause = s; row = row }))
     unfolding left

@@ -1,8 +1,8 @@
 -- What is written for what a record leaves of a term, by the weights of its parts. Assumes nothing.
-use Rattle.std.specs.Prelude.{◌≡◌, ℕ, ◌+◌, ◌<◌, ◌≤◌, cond, ◌||◌, List, length, Some, None, Option}
+use Rattle.std.specs.Prelude.{◌≡◌, ℕ, ◌+◌, ◌<◌, ◌≤◌, List, length, Some, None, Option}
 use Rattle.language.specs.Terms.{Term, nodes, both_of}
 use Rattle.openings.specs.declared.shapes.Shape.{Shape}
-use Rattle.openings.specs.Shapes.{size, lost, done, ends, both_shape}
+use Rattle.openings.specs.Shapes.{size, tidied_choice, followed, by_sides, by_followed, both_shape}
 use Rattle.openings.specs.Rounds.{of}
 use Rattle.terms.specs.declared.nodes.Node.{Node}
 use Rattle.terms.specs.declared.nodes.Node.TheVariants as node
@@ -15,8 +15,6 @@ use Rattle.residuals.specs.declared.rests.Side.{Side}
 use Rattle.residuals.specs.declared.rests.Side.TheVariants as side
 use Rattle.residuals.specs.declared.rests.Rest.{Rest}
 use Rattle.residuals.specs.declared.rests.Rest.TheVariants as rest
-use Rattle.residuals.specs.declared.rests.Half.{Half}
-use Rattle.residuals.specs.declared.rests.Half.TheVariants as half
 use Rattle.residuals.specs.Marked.{file_of, Stands, mark_at, left}
 use Rattle.residuals.specs.Weights.{weight_of, weight_in}
 
@@ -43,27 +41,21 @@ abbrev pub side_shape : List Weight → Side → Shape
 side_shape weights (side.Taken p) = (weight_in weights p).left
 side_shape weights (side.Kept p) = (weight_in weights p).held
 
-abbrev pub half_by : Shape → Shape → Half
-half_by l r = cond (lost l || lost r) half.Lost (cond (done l) half.Right (cond (done r) half.Left half.Both))
-
 -- What is written for each sort of node.
 abbrev pub leaf_rest : Option Next → Rest
 leaf_rest None = rest.Lost
 leaf_rest (Some next) = rest.Open next
 
 abbrev pub choice_rest : List Weight → ℕ → ℕ → Rest
-choice_rest ws l r = cond (lost (weight_in ws l).left) (rest.Only r) (cond (lost (weight_in ws r).left) (rest.Only l) (rest.Choice l r))
+choice_rest ws l r = by_sides (rest.Only l) (rest.Only r) (rest.Choice l r) (tidied_choice (weight_in ws l).left (weight_in ws r).left)
 
 abbrev pub both_rest : List Weight → ℕ → ℕ → Rest
 both_rest ws l r =
-    cond (lost (both_shape (weight_in ws l).left (weight_in ws r).held)) (rest.Both (side.Kept l) (side.Taken r))
-    (cond (lost (both_shape (weight_in ws l).held (weight_in ws r).left)) (rest.Both (side.Taken l) (side.Kept r)) (rest.Either l r))
+    by_sides (rest.Both (side.Taken l) (side.Kept r)) (rest.Both (side.Kept l) (side.Taken r)) (rest.Either l r)
+    (tidied_choice (both_shape (weight_in ws l).left (weight_in ws r).held) (both_shape (weight_in ws l).held (weight_in ws r).left))
 
 abbrev pub follow_rest : Marked → Shape → Next → Rest
-follow_rest m t next =
-    cond (ends t)
-    (cond (done t || lost t) (rest.Open next) (cond (lost (of m.openings.now.shapes next.clause)) (rest.Follow next) (rest.Skip next)))
-    (cond (done t || lost t) rest.Lost (rest.Follow next))
+follow_rest m t next = by_followed rest.Lost (rest.Open next) (rest.Follow next) (rest.Skip next) (followed t (of m.openings.now.shapes next.clause))
 
 -- Where the second of two parts stands.
 abbrev pub second_at : List Weight → ℕ → ℕ

@@ -5,8 +5,9 @@ ghost use Rattle.residuals.specs.Weights.{weight_in};
 ghost use Rattle.residuals.specs.Rests.{Ready, HasRoom, place, side_shape, Builds, BuildsSide, BuildsBoth};
 
 use crate::marked::Marked;
-use crate::rests::{Half, Rest, Side, half_of};
+use crate::rests::{Rest, Side};
 use crate::weighed::Weighed;
+use openings::Tidied;
 use terms::{Node, Table, open_clause};
 
 impl Weighed<'_> {
@@ -66,11 +67,11 @@ impl Weighed<'_> {
         requires room { HasRoom out.old.items (both_shape (side_shape self.now.weights.now left) (side_shape self.now.weights.now right)) }
         ensures { BuildsBoth self.now left right out.old.items out.new.items }
     {
-        match half_of(self.side(left), self.side(right)) {
-            Half::Lost => out.push(Node::Lost),
-            Half::Left => self.build_side(left, out),
-            Half::Right => self.build_side(right, out),
-            Half::Both => {
+        match Tidied::of_both(self.side(left), self.side(right)) {
+            None => out.push(Node::Lost),
+            Some(Tidied::Left) => self.build_side(left, out),
+            Some(Tidied::Right) => self.build_side(right, out),
+            Some(Tidied::Whole) => {
                 out.push(Node::Both);
                 self.build_side(left, out);
                 self.build_side(right, out);

@@ -2,11 +2,11 @@
 ghost use Rattle.std.specs.Prelude.{◌≡◌, slice_index_or};
 ghost use Rattle.terms.specs.declared.nodes.Node.TheVariants.{Lost as LostNode};
 ghost use Rattle.residuals.specs.Marked.{nodes_of};
-ghost use Rattle.residuals.specs.Rests.{half_by, side_shape, leaf_rest, choice_rest, both_rest, follow_rest, rest_by};
+ghost use Rattle.residuals.specs.Rests.{side_shape, leaf_rest, choice_rest, both_rest, follow_rest, rest_by};
 
 use crate::marks::{Mark, Next};
 use crate::weighed::Weighed;
-use openings::Shape;
+use openings::{Followed, Shape, Tidied};
 use terms::Node;
 
 /// A side of a both.
@@ -37,27 +37,6 @@ pub(crate) enum Rest {
     Skip(Next),
 }
 
-/// What is written for a both of two terms.
-#[derive(Clone, Copy)]
-pub(crate) enum Half {
-    Lost,
-    Left,
-    Right,
-    Both,
-}
-
-/// A both with a lost side is lost, with a done side the other side.
-pub(crate) fn half_of(l: Shape, r: Shape) -> Half
-    ensures { result ≡ half_by l r }
-{
-    match (l, r) {
-        (Shape::Lost, _) | (_, Shape::Lost) => Half::Lost,
-        (Shape::Done, _) => Half::Right,
-        (_, Shape::Done) => Half::Left,
-        _ => Half::Both,
-    }
-}
-
 /// A leaf that is met goes on; otherwise it is lost.
 fn leaf_rest(mark: Mark) -> Rest
     ensures { result ≡ leaf_rest mark }
@@ -79,14 +58,13 @@ impl Weighed<'_> {
         }
     }
 
-    /// A choice with a lost side is the other side.
     fn choice_rest(&self, left: usize, right: usize) -> Rest
         ensures { result ≡ choice_rest self.now.weights.now left right }
     {
-        match (self.weight(left).left, self.weight(right).left) {
-            (Shape::Lost, _) => Rest::Only(right),
-            (_, Shape::Lost) => Rest::Only(left),
-            _ => Rest::Choice(left, right),
+        match Tidied::of_choice(self.weight(left).left, self.weight(right).left) {
+            Tidied::Left => Rest::Only(left),
+            Tidied::Right => Rest::Only(right),
+            Tidied::Whole => Rest::Choice(left, right),
         }
     }
 
@@ -96,29 +74,24 @@ impl Weighed<'_> {
     {
         let l = self.weight(left);
         let r = self.weight(right);
-        match (
+        match Tidied::of_choice(
             Shape::both_of(l.left, r.held),
             Shape::both_of(l.held, r.left),
         ) {
-            (Shape::Lost, _) => Rest::Both(Side::Kept(left), Side::Taken(right)),
-            (_, Shape::Lost) => Rest::Both(Side::Taken(left), Side::Kept(right)),
-            _ => Rest::Either(left, right),
+            Tidied::Left => Rest::Both(Side::Taken(left), Side::Kept(right)),
+            Tidied::Right => Rest::Both(Side::Kept(left), Side::Taken(right)),
+            Tidied::Whole => Rest::Either(left, right),
         }
     }
 
-    /// A follow of done or lost is lost. Where what is left of its part may end, the clause may also open at once.
     fn follow_rest(&self, part: Shape, next: Next) -> Rest
         ensures { result ≡ follow_rest self.now.marked part next }
     {
-        match (part, self.marked.openings.at(next.clause)) {
-            (Shape::Lost, _) => Rest::Lost,
-            (Shape::Done, _) => Rest::Open(next),
-            (Shape::Open { .. }, Shape::Lost) => Rest::Follow(next),
-            (Shape::Open { ends, .. }, _) => if ends {
-                Rest::Skip(next)
-            } else {
-                Rest::Follow(next)
-            },
+        match Followed::of(part, self.marked.openings.at(next.clause)) {
+            None => Rest::Lost,
+            Some(Followed::Clause) => Rest::Open(next),
+            Some(Followed::Follow) => Rest::Follow(next),
+            Some(Followed::Skip) => Rest::Skip(next),
         }
     }
 

@@ -1,6 +1,5 @@
 pub mod Writing
 pub mod Viewing
-pub mod Tidied
 pub mod Joining
 pub mod Walks
 pub mod Levels

@@ -1,10 +1,9 @@
 -- A plan is right, and names only what lies above an entry or a lower template.
-use Rattle.std.proofs.Common.{◌≡◌, ℕ, ◌<◌, ◌≤◌, min, Bool, true, false, ◌||◌, List, sym, refl, ap, ◌∙◌, subst}
-use Rattle.std.proofs.lemmas.Bool.{cond_both}
+use Rattle.std.proofs.Common.{◌≡◌, ℕ, ◌<◌, ◌≤◌, min, List, Some, None, Option, sym, refl, ap, ◌∙◌, subst}
 use Rattle.kinds.specs.declared.fields.Conditions.{Conditions}
 use Rattle.kinds.specs.Rows.{Row, fill}
 use Rattle.language.specs.Clauses.{Window, Clause, step, body}
-use Rattle.language.specs.Terms.{Term, Done, Lost, Choice, Both, Follow, is_lost, is_done, may_end, nodes, choice_of, both_of, then_of, opened, BareBelow}
+use Rattle.language.specs.Terms.{Term, Done, Lost, Choice, Both, Follow, nodes, choice_of, both_of, then_of, opened, BareBelow}
 use Rattle.language.proofs.Depth.{opening_rules}
 use Rattle.entries.specs.declared.entries.Entry.{Entry}
 use Rattle.entries.specs.declared.entries.Entry.TheVariants as entries
@@ -16,17 +15,20 @@ use Rattle.contract_file.proofs.Facts.{known_sound}
 use Rattle.days.specs.Windows.{meant}
 use Rattle.openings.specs.declared.known.Openings.{Openings}
 use Rattle.openings.specs.declared.shapes.Shape.{Shape}
+use Rattle.openings.specs.declared.shapes.Tidied.{Tidied}
+use Rattle.openings.specs.declared.shapes.Tidied.TheVariants as tidied
+use Rattle.openings.specs.declared.shapes.Followed.{Followed}
+use Rattle.openings.specs.declared.shapes.Followed.TheVariants as follows
 use Rattle.openings.specs.Clauses.{conditions_at, arguments_at, clause_by, clause_at, templates_of}
-use Rattle.openings.specs.Shapes.{Known, size, lost, done, ends}
+use Rattle.openings.specs.Shapes.{Known, size, by_sides, by_both, by_followed}
 use Rattle.openings.specs.Rounds.{of}
-use Rattle.openings.proofs.Shaping as shaping
+use Rattle.openings.proofs.Shaping.{size_is, ChoiceLeaves, choice_leaves, BothLeaves, both_leaves, ThenLeaves, then_leaves}
 use Rattle.openings.proofs.Unfolding as unfolding-laws
 use Rattle.openings.proofs.Guarding.{guarded}
 use Rattle.openings.proofs.Facts.{known_openings}
 use Rattle.terms.specs.declared.plans.Plan.{Plan}
 use Rattle.terms.specs.declared.plans.Plan.TheVariants as plan
 use Rattle.terms.specs.Plans.{opens, choice_plan, both_plan, then_plan, plan_by}
-use Rattle.terms.proofs.Tidied as tidied
 
 pub record Stepped (f : File) (i : ℕ) : Type 0 where
   pub when : Window
@@ -58,52 +60,34 @@ module _ (f : File) (level i : ℕ) (row : Row) (base : ℕ) where
   Planned (plan.Call k a) = Called k a
 
   module _ (shapes : List Shape) (sound : Sound f) (known : Known f shapes) where
-    lost_is : (e : ℕ) (b : Bool) → lost (of shapes e) ≡ b → is_lost (opens f row base e) ≡ b
-    lost_is e b q = sym (shaping.lost_is (opens f row base e)) ∙ sym (ap lost (known e row base)) ∙ q
-
-    done_is : (e : ℕ) (b : Bool) → done (of shapes e) ≡ b → is_done (opens f row base e) ≡ b
-    done_is e b q = sym (shaping.done_is (opens f row base e)) ∙ sym (ap done (known e row base)) ∙ q
-
-    ends_is : (e : ℕ) (b : Bool) → ends (of shapes e) ≡ b → may_end (opens f row base e) ≡ b
-    ends_is e b q = sym (shaping.ends_is (opens f row base e)) ∙ sym (ap ends (known e row base)) ∙ q
-
-    either_lost : (l r : ℕ) (b : Bool) → (lost (of shapes l) || lost (of shapes r)) ≡ b → (is_lost (opens f row base l) || is_lost (opens f row base r)) ≡ b
-    either_lost l r b q = rw (lost_is l _ refl, lost_is r _ refl) q
-
-    empty_is : (e : ℕ) (b : Bool) → (done (of shapes e) || lost (of shapes e)) ≡ b → (is_done (opens f row base e) || is_lost (opens f row base e)) ≡ b
-    empty_is e b q = rw (done_is e _ refl, lost_is e _ refl) q
-
     -- the sides of an entry that has two
     module _ (l r : ℕ) where
       choice_planned : opens f row base i ≡ choice_of (opens f row base l) (opens f row base r) → Next l → Next r → Planned (choice_plan shapes l r)
-      choice_planned is nl nr =
-          cond_both (lost (of shapes l)) _ _ Planned
-          (λ a. (is ∙ tidied.choice_right _ _ (lost_is l true a), nr))
-          (λ a. cond_both (lost (of shapes r)) _ _ Planned
-          (λ b. (is ∙ tidied.choice_left _ _ (lost_is l false a) (lost_is r true b), nl))
-          (λ b. (is ∙ tidied.choice_both _ _ (lost_is l false a) (lost_is r false b), nl, nr)))
+      choice_planned is nl nr = by _ (choice_leaves (opens f row base l) (opens f row base r) _ _ (known l row base) (known r row base))
+        where
+          by : (k : Tidied) → ChoiceLeaves (opens f row base l) (opens f row base r) k → Planned (by_sides (plan.Only l) (plan.Only r) (plan.Choice l r) k)
+          by tidied.Left e = (is ∙ e, nl)
+          by tidied.Right e = (is ∙ e, nr)
+          by tidied.Whole e = (is ∙ e, nl, nr)
 
       both_planned : opens f row base i ≡ both_of (opens f row base l) (opens f row base r) → Next l → Next r → Planned (both_plan shapes l r)
-      both_planned is nl nr =
-          cond_both (lost (of shapes l) || lost (of shapes r)) _ _ Planned
-          (λ a. is ∙ tidied.both_lost _ _ (either_lost l r true a))
-          (λ a. cond_both (done (of shapes l)) _ _ Planned
-          (λ b. (is ∙ tidied.both_right _ _ (either_lost l r false a) (done_is l true b), nr))
-          (λ b. cond_both (done (of shapes r)) _ _ Planned
-          (λ d. (is ∙ tidied.both_left _ _ (either_lost l r false a) (done_is l false b) (done_is r true d), nl))
-          (λ d. (is ∙ tidied.both_both _ _ (either_lost l r false a) (done_is l false b) (done_is r false d), nl, nr))))
+      both_planned is nl nr = by _ (both_leaves (opens f row base l) (opens f row base r) _ _ (known l row base) (known r row base))
+        where
+          by : (k : Option Tidied) → BothLeaves (opens f row base l) (opens f row base r) k → Planned (by_both plan.Lost (plan.Only l) (plan.Only r) (plan.Both l r) k)
+          by None e = is ∙ e
+          by (Some tidied.Left) e = (is ∙ e, nl)
+          by (Some tidied.Right) e = (is ∙ e, nr)
+          by (Some tidied.Whole) e = (is ∙ e, nl, nr)
 
       then_planned : opens f row base i ≡ then_of (opens f row base l) (clause_at f r) row (opens f row base r) → Next l → Next r → Planned (then_plan shapes l r)
-      then_planned is nl nr =
-          cond_both (ends (of shapes l)) _ _ Planned
-          (λ a. cond_both (done (of shapes l) || lost (of shapes l)) _ _ Planned
-          (λ b. (is ∙ tidied.then_open _ _ _ _ (ends_is l true a) (empty_is l true b), nr))
-          (λ b. cond_both (lost (of shapes r)) _ _ Planned
-          (λ d. (is ∙ tidied.then_only _ _ _ _ (ends_is l true a) (empty_is l false b) (lost_is r true d), nl))
-          (λ d. (is ∙ tidied.then_skip _ _ _ _ (ends_is l true a) (empty_is l false b) (lost_is r false d), nl, nr))))
-          (λ a. cond_both (done (of shapes l) || lost (of shapes l)) _ _ Planned
-          (λ b. is ∙ tidied.then_lost _ _ _ _ (ends_is l false a) (empty_is l true b))
-          (λ b. (is ∙ tidied.then_follow _ _ _ _ (ends_is l false a) (empty_is l false b), nl)))
+      then_planned is nl nr = by _ (then_leaves (opens f row base l) (clause_at f r) row (opens f row base r) _ _ (known l row base) (known r row base))
+        where
+          by : (k : Option Followed) → ThenLeaves (opens f row base l) (clause_at f r) row (opens f row base r) k
+              → Planned (by_followed plan.Lost (plan.Only r) (plan.Follow l r) (plan.Skip l r) k)
+          by None e = is ∙ e
+          by (Some follows.Clause) e = (is ∙ e, nr)
+          by (Some follows.Follow) e = (is ∙ e, nl)
+          by (Some follows.Skip) e = (is ∙ e, nl, nr)
 
     -- what stands in the entry
     module _ (e : Entry) (is : at f.entries i ≡ e) where
@@ -158,7 +142,7 @@ module _ (o : Openings) where
   pub contract_told : (f : File) (s : Shape) → f ≡ o.read.file → s ≡ of o.shapes f.contract → (row : Row) (base : ℕ)
       → size s ≡ min (nodes (opens o.read.file row base o.read.file.contract)) 257
   contract_told f s same is row base =
-      ap size (is ∙ ap (λ g. of o.shapes g.contract) same ∙ known_openings _ _ o.known o.read.file.contract row base) ∙ shaping.size_is _
+      ap size (is ∙ ap (λ g. of o.shapes g.contract) same ∙ known_openings _ _ o.known o.read.file.contract row base) ∙ size_is _
 
   pub plans : (level i : ℕ) (row : Row) (base : ℕ) (p : Plan) → p ≡ plan_by o.shapes (at o.read.file.entries i) → Planned o.read.file level i row base p
   plans level i row base p eq =

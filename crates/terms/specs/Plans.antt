@@ -1,6 +1,6 @@
 -- What an entry opens to, and what is written for it, by the table of what each entry opens to: nothing that tidies away is
 -- named. Assumes nothing.
-use Rattle.std.specs.Prelude.{ℕ, cond, ◌||◌, List}
+use Rattle.std.specs.Prelude.{ℕ, List}
 use Rattle.kinds.specs.Rows.{Row}
 use Rattle.language.specs.Terms.{Term, opened}
 use Rattle.contract_file.specs.declared.files.File.{File}
@@ -10,27 +10,22 @@ use Rattle.openings.specs.declared.shapes.Shape.{Shape}
 use Rattle.terms.specs.declared.plans.Plan.{Plan}
 use Rattle.terms.specs.declared.plans.Plan.TheVariants as plan
 use Rattle.openings.specs.Clauses.{clause_at, templates_of}
-use Rattle.openings.specs.Shapes.{lost, done, ends}
+use Rattle.openings.specs.Shapes.{tidied_choice, tidied_both, followed, by_sides, by_both, by_followed}
 use Rattle.openings.specs.Rounds.{of}
 
 -- What the clause of entry i opens to, from a row and on a base day.
 abbrev pub opens : File → Row → ℕ → ℕ → Term
 opens f row base i = opened (templates_of f) (clause_at f i) row base
 
--- a choice with a lost side is the other side
+-- by what tidying leaves of an entry with two parts
 abbrev pub choice_plan : List Shape → ℕ → ℕ → Plan
-choice_plan s l r = cond (lost (of s l)) (plan.Only r) (cond (lost (of s r)) (plan.Only l) (plan.Choice l r))
+choice_plan s l r = by_sides (plan.Only l) (plan.Only r) (plan.Choice l r) (tidied_choice (of s l) (of s r))
 
--- a both with a lost side is lost, with a done side the other side
 abbrev pub both_plan : List Shape → ℕ → ℕ → Plan
-both_plan s l r = cond (lost (of s l) || lost (of s r)) plan.Lost (cond (done (of s l)) (plan.Only r) (cond (done (of s r)) (plan.Only l) (plan.Both l r)))
+both_plan s l r = by_both plan.Lost (plan.Only l) (plan.Only r) (plan.Both l r) (tidied_both (of s l) (of s r))
 
--- a follow of done or lost is lost; where the left may end, the right is also opened at once
 abbrev pub then_plan : List Shape → ℕ → ℕ → Plan
-then_plan s l r =
-    cond (ends (of s l))
-    (cond (done (of s l) || lost (of s l)) (plan.Only r) (cond (lost (of s r)) (plan.Follow l r) (plan.Skip l r)))
-    (cond (done (of s l) || lost (of s l)) plan.Lost (plan.Follow l r))
+then_plan s l r = by_followed plan.Lost (plan.Only r) (plan.Follow l r) (plan.Skip l r) (followed (of s l) (of s r))
 
 -- an entry that is no clause is lost
 abbrev pub plan_by : List Shape → Entry → Plan

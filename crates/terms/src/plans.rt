@@ -4,7 +4,7 @@ ghost use Rattle.entries.specs.Parts.{at};
 ghost use Rattle.terms.specs.Plans.{choice_plan, both_plan, then_plan, plan_by};
 
 use entries::Entry;
-use openings::{Openings, Shape};
+use openings::{Followed, Openings, Tidied};
 
 /// What is written for an entry. Nothing that tidies away is named.
 #[derive(Clone, Copy)]
@@ -24,42 +24,35 @@ pub enum Plan {
     Call(u8, u16),
 }
 
-/// A choice with a lost side is the other side.
 fn choice_plan(openings: &Openings, left: u16, right: u16) -> Plan
     ensures { result ≡ choice_plan openings.now.shapes left right }
 {
-    match (openings.at(left), openings.at(right)) {
-        (Shape::Lost, _) => Plan::Only(right),
-        (_, Shape::Lost) => Plan::Only(left),
-        _ => Plan::Choice(left, right),
+    match Tidied::of_choice(openings.at(left), openings.at(right)) {
+        Tidied::Left => Plan::Only(left),
+        Tidied::Right => Plan::Only(right),
+        Tidied::Whole => Plan::Choice(left, right),
     }
 }
 
-/// A both with a lost side is lost, with a done side the other side.
 fn both_plan(openings: &Openings, left: u16, right: u16) -> Plan
     ensures { result ≡ both_plan openings.now.shapes left right }
 {
-    match (openings.at(left), openings.at(right)) {
-        (Shape::Lost, _) | (_, Shape::Lost) => Plan::Lost,
-        (Shape::Done, _) => Plan::Only(right),
-        (_, Shape::Done) => Plan::Only(left),
-        _ => Plan::Both(left, right),
+    match Tidied::of_both(openings.at(left), openings.at(right)) {
+        None => Plan::Lost,
+        Some(Tidied::Left) => Plan::Only(left),
+        Some(Tidied::Right) => Plan::Only(right),
+        Some(Tidied::Whole) => Plan::Both(left, right),
     }
 }
 
-/// A follow of done or lost is lost. Where the left may end, the right may also open at once.
 fn then_plan(openings: &Openings, left: u16, right: u16) -> Plan
     ensures { result ≡ then_plan openings.now.shapes left right }
 {
-    match (openings.at(left), openings.at(right)) {
-        (Shape::Lost, _) => Plan::Lost,
-        (Shape::Done, _) => Plan::Only(right),
-        (Shape::Open { .. }, Shape::Lost) => Plan::Follow(left, right),
-        (Shape::Open { ends, .. }, _) => if ends {
-            Plan::Skip(left, right)
-        } else {
-            Plan::Follow(left, right)
-        },
+    match Followed::of(openings.at(left), openings.at(right)) {
+        None => Plan::Lost,
+        Some(Followed::Clause) => Plan::Only(right),
+        Some(Followed::Follow) => Plan::Follow(left, right),
+        Some(Followed::Skip) => Plan::Skip(left, right),
     }
 }
 

@@ -7,7 +7,7 @@ use Rattle.residuals.specs.Marked.{nodes_of}
 use Rattle.residuals.specs.Weights.{weight_in}
 use Rattle.residuals.specs.Rests.{left_of, side_term}
 use Rattle.residuals.proofs.Copying.{copied}
-use Rattle.residuals.proofs.Resting.{rests, either_written, halved, whole, in_table, left_size, side_size, both_size}
+use Rattle.residuals.proofs.Resting.{rests, either_written, halved, halved_some, whole, in_table, left_size, side_size, both_size}
 use Rattle.residuals.proofs.weighed.Weighed.+build_build_both_build_side.Goals as goal
 
 -- Kept in each answer: each has a view of the function's steps of its own, to which the lemma has to be applied.
@@ -131,58 +131,58 @@ build_both-build_side-requires t c =
     let x = c.requires.ready in
     let y = c.requires.beside in
     let size = both_size v c.args.left c.args.right x y in
-    let h = halved v c.args.left c.args.right x y _ _ _ c.in-Left.ensures c.side.ensures c.side-2.ensures in
+    let h = halved_some v c.args.left c.args.right x y _ _ _ _ c.in-Some-Left.field-0-is c.in-Some-Left.ensures c.side.ensures c.side-2.ensures in
     (omega arith, (x, omega (arith, c.requires.room, size, side_size v c.args.left x, ap nodes h)))
 
-pub build_both-build_side-requires-in-Right : goal.build_both-build_side-requires-in-Right
-build_both-build_side-requires-in-Right t c =
+pub build_both-build_side-requires-in-Some-Right : goal.build_both-build_side-requires-in-Some-Right
+build_both-build_side-requires-in-Some-Right t c =
     let v = c.args.self.now in
     let x = c.requires.ready in
     let y = c.requires.beside in
     let size = both_size v c.args.left c.args.right x y in
-    let h = halved v c.args.left c.args.right x y _ _ _ c.in-Right.ensures c.side.ensures c.side-2.ensures in
+    let h = halved_some v c.args.left c.args.right x y _ _ _ _ c.in-Some-Right.field-0-is c.in-Some-Right.ensures c.side.ensures c.side-2.ensures in
     let order = c.requires.in_order in
     (omega arith, (y, omega (arith, c.requires.room, size, side_size v c.args.right y, ap nodes h)))
 
-pub build_both-build_side-requires-in-Both : goal.build_both-build_side-requires-in-Both
-build_both-build_side-requires-in-Both t c =
+pub build_both-build_side-requires-in-Some-Whole : goal.build_both-build_side-requires-in-Some-Whole
+build_both-build_side-requires-in-Some-Whole t c =
     let v = c.args.self.now in
     let x = c.requires.ready in
     let y = c.requires.beside in
     let size = both_size v c.args.left c.args.right x y in
-    let h = halved v c.args.left c.args.right x y _ _ _ c.in-Both.ensures c.side.ensures c.side-2.ensures in
-    (omega arith, (x, omega (arith, c.requires.room, size, side_size v c.args.left x, ap nodes h, c.push-in-Both.ensures.len)))
+    let h = halved_some v c.args.left c.args.right x y _ _ _ _ c.in-Some-Whole.field-0-is c.in-Some-Whole.ensures c.side.ensures c.side-2.ensures in
+    (omega arith, (x, omega (arith, c.requires.room, size, side_size v c.args.left x, ap nodes h, c.push-in-Some-Whole.ensures.len)))
 
-pub build_both-build_side-requires-in-Both-2 : goal.build_both-build_side-requires-in-Both-2
-build_both-build_side-requires-in-Both-2 t c =
+pub build_both-build_side-requires-in-Some-Whole-2 : goal.build_both-build_side-requires-in-Some-Whole-2
+build_both-build_side-requires-in-Some-Whole-2 t c =
     let v = c.args.self.now in
     let x = c.requires.ready in
     let y = c.requires.beside in
     let size = both_size v c.args.left c.args.right x y in
-    let h = halved v c.args.left c.args.right x y _ _ _ c.in-Both.ensures c.side.ensures c.side-2.ensures in
+    let h = halved_some v c.args.left c.args.right x y _ _ _ _ c.in-Some-Whole.field-0-is c.in-Some-Whole.ensures c.side.ensures c.side-2.ensures in
     let order = c.requires.in_order in
-    let first = longer _ _ _ _ (c.build_side-in-Both.ensures x) in
-    (omega arith, (y, omega (arith, c.requires.room, size, side_size v c.args.right y, ap nodes h, c.push-in-Both.ensures.len, first)))
+    let first = longer _ _ _ _ (c.build_side-in-Some-Whole.ensures x) in
+    (omega arith, (y, omega (arith, c.requires.room, size, side_size v c.args.right y, ap nodes h, c.push-in-Some-Whole.ensures.len, first)))
 
-pub build_both-returns-in-Lost : goal.build_both-returns-in-Lost
-build_both-returns-in-Lost t c x y =
-    let h = halved c.args.self.now c.args.left c.args.right x y _ _ _ c.in-Lost.ensures c.side.ensures c.side-2.ensures in
+pub build_both-returns-in-None : goal.build_both-returns-in-None
+build_both-returns-in-None t c x y =
+    let h = halved c.args.self.now c.args.left c.args.right x y _ _ _ c.in-None.ensures c.side.ensures c.side-2.ensures in
     retold _ _ _ _ _ h (write_lost _ _ _ c.push.ensures.items)
 
-pub build_both-returns-in-Left : goal.build_both-returns-in-Left
-build_both-returns-in-Left t c x y =
-    let h = halved c.args.self.now c.args.left c.args.right x y _ _ _ c.in-Left.ensures c.side.ensures c.side-2.ensures in
+pub build_both-returns-in-Some-Left : goal.build_both-returns-in-Some-Left
+build_both-returns-in-Some-Left t c x y =
+    let h = halved_some c.args.self.now c.args.left c.args.right x y _ _ _ _ c.in-Some-Left.field-0-is c.in-Some-Left.ensures c.side.ensures c.side-2.ensures in
     retold _ _ _ _ _ h (c.build_side.ensures x)
 
-pub build_both-returns-in-Right : goal.build_both-returns-in-Right
-build_both-returns-in-Right t c x y =
-    let h = halved c.args.self.now c.args.left c.args.right x y _ _ _ c.in-Right.ensures c.side.ensures c.side-2.ensures in
-    retold _ _ _ _ _ h (c.build_side-in-Right.ensures y)
+pub build_both-returns-in-Some-Right : goal.build_both-returns-in-Some-Right
+build_both-returns-in-Some-Right t c x y =
+    let h = halved_some c.args.self.now c.args.left c.args.right x y _ _ _ _ c.in-Some-Right.field-0-is c.in-Some-Right.ensures c.side.ensures c.side-2.ensures in
+    retold _ _ _ _ _ h (c.build_side-in-Some-Right.ensures y)
 
-pub build_both-returns-in-Both : goal.build_both-returns-in-Both
-build_both-returns-in-Both t c x y =
-    let h = halved c.args.self.now c.args.left c.args.right x y _ _ _ c.in-Both.ensures c.side.ensures c.side-2.ensures in
-    retold _ _ _ _ _ h (write_both _ _ _ _ _ (side_term c.args.left x) (side_term c.args.right y) c.push-in-Both.ensures.items (c.build_side-in-Both.ensures x) (c.build_side-in-Both-2.ensures y))
+pub build_both-returns-in-Some-Whole : goal.build_both-returns-in-Some-Whole
+build_both-returns-in-Some-Whole t c x y =
+    let h = halved_some c.args.self.now c.args.left c.args.right x y _ _ _ _ c.in-Some-Whole.field-0-is c.in-Some-Whole.ensures c.side.ensures c.side-2.ensures in
+    retold _ _ _ _ _ h (write_both _ _ _ _ _ (side_term c.args.left x) (side_term c.args.right y) c.push-in-Some-Whole.ensures.items (c.build_side-in-Some-Whole.ensures x) (c.build_side-in-Some-Whole-2.ensures y))
 
 pub build_side-slice_bounds-try_extend_from_slice-end : goal.build_side-slice_bounds-try_extend_from_slice-end
 build_side-slice_bounds-try_extend_from_slice-end t c =
