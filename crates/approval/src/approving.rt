@@ -28,30 +28,6 @@ fn ask_conditions<K: Kind>(read: &ReadFile, kind: &K) -> Result<(), Fault>
     ask_each(|i| admitted(kind, file.at(i)), Fault::Inadmissible)
 }
 
-/// Asks the questions of approving, where the table tells what each entry opens to.
-pub(crate) fn ask_all<K: Kind>(
-    read: &ReadFile,
-    shapes: &[Shape; PLACES],
-    kind: &K,
-    day: u32,
-) -> Result<(), Fault>
-    requires { Known read.now.file shapes.now }
-    ensures { Answers (approving (K.Kind.numbered kind.now) K.Kind.meaning.admits day read.now.file) 12 result }
-{
-    let file = read.file();
-    if file.kind != kind.number() {
-        return Err(Fault::Kind);
-    }
-    ask_conditions(read, kind)?;
-    if usize::from(shape_at(shapes, usize::from(file.contract)).size()) > MOST_NODES {
-        return Err(Fault::Size);
-    }
-    if day > LAST_DAY {
-        return Err(Fault::Day);
-    }
-    Ok(())
-}
-
 /// Is a read file of this kind, with conditions that the kind admits, the contract small enough when it is opened, and the
 /// signing day early enough? If so, the answer is what each entry opens to.
 pub fn approve<K: Kind>(read: &ReadFile, kind: &K, day: u32) -> Result<[Shape; PLACES], Fault>
@@ -59,7 +35,17 @@ pub fn approve<K: Kind>(read: &ReadFile, kind: &K, day: u32) -> Result<[Shape; P
     ensures value { IfOk result (λ s. s ≡ openings_of read.now.file) }
     ensures known { IfOk result (λ s. Known read.now.file s) }
 {
+    let file = read.file();
+    if file.kind != kind.number() {
+        return Err(Fault::Kind);
+    }
+    ask_conditions(read, kind)?;
     let shapes = openings(read);
-    ask_all(read, &shapes, kind, day)?;
+    if usize::from(shape_at(&shapes, usize::from(file.contract)).size()) > MOST_NODES {
+        return Err(Fault::Size);
+    }
+    if day > LAST_DAY {
+        return Err(Fault::Day);
+    }
     Ok(shapes)
 }

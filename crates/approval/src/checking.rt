@@ -5,7 +5,7 @@ ghost use Rattle.answers.specs.Approving.{checking};
 ghost use Rattle.answers.specs.Computed.{computed};
 ghost use Rattle.approval.specs.Contents.{held, contents};
 
-use crate::approving::ask_all;
+use crate::approving::approve;
 use crate::checked::Checked;
 use contract_file::{Fault, ReadFile, read};
 use kinds::Kind;
@@ -21,8 +21,8 @@ pub fn check<K: Kind>(place: &mut Checked, bytes: &[u8], kind: &K, day: u32) -> 
 {
     let mut file = ReadFile::new();
     read(&mut file, bytes)?;
-    let openings = Openings::of(file);
-    ask_all(openings.read(), openings.shapes(), kind, day)?;
+    let shapes = approve(&file, kind, day)?;
+    let openings = Openings { read: file, shapes };
     *place = Checked { openings, day };
     Ok(())
 }

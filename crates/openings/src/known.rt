@@ -12,8 +12,8 @@ use contract_file::{File, PLACES, ReadFile};
 // Kept as a table beside the file's: a pointer finds an entry and what it opens to by the same number.
 #[derive(Drop)]
 pub struct Openings {
-    pub(crate) read: ReadFile,
-    pub(crate) shapes: [Shape; PLACES],
+    pub read: ReadFile,
+    pub shapes: [Shape; PLACES],
     ghost known: { ∥ Known read.file shapes ∥₁ },
 }
 
