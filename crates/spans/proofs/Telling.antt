@@ -1,10 +1,9 @@
 -- A pass tells the spans of the entries, and numbers the rows.
-use Rattle.std.proofs.Common.{◌≡◌, ℕ, zero, suc, ◌+◌, ◌-◌, ◌<◌, ◌≤◌, Bool, true, false, cond, ◌||◌, List, map, count_by, length, get_or, drop, replicate, add-one, Some, None, Option, sym, refl, ap, ◌∙◌, ap₂, arith}
+use Rattle.std.proofs.Common.{◌≡◌, ℕ, zero, suc, ◌+◌, ◌-◌, ◌<◌, ◌≤◌, Bool, true, false, cond, ◌||◌, ◌≢◌, List, length, get_or, set, replicate, Some, None, Option, sym, refl, ap, ◌∙◌, ap₂, arith, length-set, get_or-set_other, get_or-set_same}
 use native.Mathlib.Decide.{dec_le}
-use Rattle.std.specs.List.{range_with_len}
-use Rattle.std.proofs.lemmas.List.{get_or_past, drop_all, drop_more}
-use Rattle.std.proofs.lemmas.List.Folds.{sum_by-replicate}
-use Rattle.std.proofs.lemmas.List.Sums.{sum_by-cons, sum_by-append}
+use lib.ListN.{length-replicate}
+use Rattle.std.proofs.lemmas.Bool.{cond-true, cond-false}
+use Rattle.std.proofs.lemmas.List.{get_or_past, get_or-replicate}
 use Rattle.std.proofs.lemmas.List.FromFn.{fill_by_all, get_or-map-range_with_len, length-map-range_with_len}
 use Rattle.language.specs.Clauses.{Clause, step}
 use Rattle.language.specs.Ends.{Durations, ends, durations}
@@ -18,13 +17,11 @@ use Rattle.contract_file.specs.declared.files.File.{File}
 use Rattle.contract_file.specs.Pointing.{EntryLeads}
 use Rattle.contract_file.specs.Sound.{Sound}
 use Rattle.openings.specs.Clauses.{clause_by, clause_at, templates_of, conditions_at}
-use Rattle.openings.specs.Passes.{told_past}
-use Rattle.openings.proofs.Downward.{past_is}
 use Rattle.openings.proofs.Unfolding.{Leading, leading, leads_at, unfolds, unfolds_past}
 use Rattle.spans.specs.declared.spans.Span.{Span}
 use Rattle.spans.specs.declared.spans.Span.TheVariants.{Never, ByDay}
 use Rattle.spans.specs.Spans.{dated, lasting, span_by, rows_in, row_of, spans_of}
-use Rattle.spans.specs.Rounds.{of, lasts, Passed, span_of, by_day, entry_dated, entry_span, Told}
+use Rattle.spans.specs.Rounds.{of, lasts, Passed, span_of, by_day, entry_dated, Told}
 use Rattle.spans.proofs.Relativity.{relative_undated}
 use Rattle.spans.proofs.Lasting.{lasts_is}
 
@@ -36,6 +33,18 @@ by_day_is : (b : Bool) (row : ℕ) (x : Option ℕ) → by_day (cond b (ByDay ro
 by_day_is true row x = refl
 by_day_is false row x = not_by_day x
 
+never_known : (n k : ℕ) → span_of (replicate n Never) k ≡ Never
+never_known n k = elim (dec_le n k) [
+  | yes h ↦ past (replicate n Never) (rw long h)
+  | no h ↦ get_or-replicate n k Never Never (omega arith)
+]
+  where
+    long : length (replicate n Never) ≡ n
+    long = simp length-replicate
+
+    past : (xs : List Span) → length xs ≤ k → span_of xs k ≡ Never
+    past xs h = get_or_past xs k Never h
+
 -- there are no more rows than entries
 pub few_rows : (f : File) (n i : ℕ) → rows_in f n i ≤ n
 unfolding rows_in
@@ -46,21 +55,21 @@ few_rows f (suc n) i = let before = few_rows f n (suc i) in let one = at_most_on
     at_most_one true = omega arith
     at_most_one false = omega arith
 
--- spans that are by day just where clauses are dated are counted as rows
-module _ (f : File) (tells : ℕ → Span) (right : (i : ℕ) → by_day (tells i) ≡ dated (clause_at f i)) where
-  abbrev table : List Span
-  table = map tells (range_with_len 0 257)
+pub rows_none : (f : File) → 0 ≡ rows_in f 0 257
+unfolding rows_in
+rows_none f = refl
 
-  pub rows_are_counted : (n i : ℕ) → i + n ≡ 257 → count_by by_day (drop i table) ≡ rows_in f n i
-  unfolding rows_in
-  rows_are_counted zero i e = ap (count_by by_day) (drop_all i table (omega (arith, length-map-range_with_len tells 0 257)))
-  rows_are_counted (suc n) i e =
-      let here : get_or table i Never ≡ tells i = get_or-map-range_with_len tells 0 257 i i Never (omega arith) (omega arith) in
-      let one = ap {B = ℕ} (λ b. cond b 1 0) (ap by_day here ∙ right i) in
-      let more = rows_are_counted n (i + 1) (omega arith) ∙ ap (rows_in f n) (add-one i) in
-      ap (count_by by_day) (drop_more table i Never (omega (arith, length-map-range_with_len tells 0 257)))
-      ∙ sum_by-cons (λ s. cond (by_day s) 1 0) (get_or table i Never) (drop (i + 1) table)
-      ∙ ap₂ (λ (a b : ℕ). a + b) one more ∙ omega arith
+-- one entry more
+rows_more : (f : File) (i to rows : ℕ) → i < 257 → to ≡ i + 1 → rows ≡ rows_in f (257 - to) to → rows + cond (dated (clause_at f i)) 1 0 ≡ rows_in f (257 - i) i
+unfolding rows_in
+rows_more f i to rows small is h =
+    let next : to ≡ suc i = omega arith in
+    let many : 257 - i ≡ suc (257 - suc i) = omega arith in
+    ap (λ n. n + cond (dated (clause_at f i)) 1 0) (h ∙ ap (λ n. rows_in f (257 - n) n) next) ∙ sym (ap (λ n. rows_in f n i) many)
+
+-- from an entry on, the table tells the span of each
+abbrev pub ToldFrom : File → List (Option ℕ) → ℕ → List Span → Type 0
+ToldFrom f days from s = (length s ≡ 257) × ((i : ℕ) → from ≤ i → span_of s i ≡ cond (dated (clause_at f i)) (ByDay (row_of f i)) (lasting (of days i)))
 
 module _ (f : File) (up : Leading f) (days : List (Option ℕ)) where
   abbrev tells : ℕ → Span
@@ -83,40 +92,56 @@ module _ (f : File) (up : Leading f) (days : List (Option ℕ)) where
   dated_by s i h (entries.Condition k t x) p = refl
   dated_by s i h (entries.Argument k v x) p = refl
 
-  -- the span of each entry at its number
-  abbrev pub all_tell : List Span
-  all_tell = map tells (range_with_len 0 257)
-
-  pub all_tell_long : length all_tell ≡ 257
-  all_tell_long = length-map-range_with_len tells 0 257
-
-  all_tell_at : length days ≡ 257 → (i : ℕ) → span_of all_tell i ≡ tells i
-  all_tell_at long i = elim (dec_le 257 i) [
-    | yes h ↦
-        get_or_past all_tell i Never (omega (arith, all_tell_long)) ∙ sym (ap₂ (λ c x. cond (dated c) (ByDay (row_of f i)) (lasting x)) (unfolds_past f up i h) (get_or_past days i None (omega arith)))
-    | no h ↦ get_or-map-range_with_len tells 0 257 i i Never (omega arith) (omega arith)
-  ]
-
-  by_day_at : (i : ℕ) → by_day (tells i) ≡ dated (clause_at f i)
-  by_day_at i = by_day_is (dated (clause_at f i)) (row_of f i) (of days i)
-
-  entry_dated_is : length days ≡ 257 → (i : ℕ) → entry_dated (told_past Never all_tell i) (at f.entries i) ≡ dated (clause_at f i)
-  entry_dated_is long i =
-      dated_by (told_past Never all_tell i) i (λ k h. ap by_day (past_is Never all_tell i k h ∙ all_tell_at long k) ∙ by_day_at k) (at f.entries i) (leads_at f up i)
+  dated_is : (s : List Span) (i to : ℕ) (e : Entry) → to ≡ i + 1 → ToldFrom f days to s → e ≡ at f.entries i → entry_dated s e ≡ dated (clause_at f i)
+  dated_is s i to e is inv ee =
+      ap (entry_dated s) ee
+      ∙ dated_by s i (λ k h. ap by_day (inv.1 k (omega arith)) ∙ by_day_is (dated (clause_at f k)) (row_of f k) (of days k)) (at f.entries i) (leads_at f up i)
       ∙ ap dated (sym (unfolds f up i))
 
-  row_is : (i : ℕ) → i < 257 → count_by by_day (told_past Never all_tell i) ≡ row_of f i
-  row_is i small =
-      let none = sum_by-replicate (λ s. cond (by_day s) 1 0) (i + 1) Never in
-      let number : i + 1 ≡ suc i = omega arith in
-      let many = rows_are_counted f tells by_day_at (256 - i) (i + 1) (omega arith) ∙ ap (rows_in f (256 - i)) number in
-      sum_by-append (λ s. cond (by_day s) 1 0) (replicate (i + 1) Never) (drop (i + 1) all_tell) ∙ omega (arith, none, many)
+  told_more : (s : List Span) (i to : ℕ) (x : Span) → i < 257 → to ≡ i + 1 → ToldFrom f days to s → x ≡ tells i → ToldFrom f days i (set s i x)
+  told_more s i to x small is inv ex = (
+    simp length-set inv.0,
+    λ k low. elim (dec_le k i) [
+      | yes j ↦ (let same : k ≡ i = omega arith in
+          let inside : i < length s = omega (arith, inv.0) in
+          let here : get_or (set s i x) i Never ≡ x = rw get_or-set_same in
+          ap (span_of (set s i x)) same ∙ here ∙ ex ∙ sym (ap tells same))
+      | no j ↦ (let ne : k ≢ i = omega arith in
+          let there : get_or (set s i x) k Never ≡ get_or s k Never = rw get_or-set_other in
+          there ∙ inv.1 k (omega arith))
+    ],
+  )
 
-  pub entry_span_is : length days ≡ 257 → (i : ℕ) → i < 257 → entry_span (told_past Never all_tell i) (of days i) (at f.entries i) ≡ span_of all_tell i
-  entry_span_is long i small = ap₂ (λ b row. cond b (ByDay row) (lasting (of days i))) (entry_dated_is long i) (row_is i small) ∙ sym (all_tell_at long i)
+  row_is : (i to rows : ℕ) → i < 257 → to ≡ i + 1 → rows ≡ rows_in f (257 - to) to → rows ≡ row_of f i
+  row_is i to rows small is h =
+      let next : to ≡ suc i = omega arith in
+      let many : 257 - suc i ≡ 256 - i = omega arith in
+      h ∙ ap (λ n. rows_in f (257 - n) n) next ∙ ap (λ n. rows_in f n (suc i)) many
 
-  pub all_told : length days ≡ 257 → (s : List Span) → s ≡ all_tell → Told f days s
-  all_told long s is = (ap (λ (l : List Span). length l) is ∙ all_tell_long, λ i. ap (λ l. span_of l i) is ∙ all_tell_at long i)
+  -- past the last entry nothing stands
+  pub told_none : length days ≡ 257 → ToldFrom f days 257 (replicate 257 Never)
+  told_none long = (
+    simp length-replicate,
+    λ i h. never_known 257 i ∙ sym (ap₂ (λ c x. cond (dated c) (ByDay (row_of f i)) (lasting x)) (unfolds_past f up i h) (get_or_past days i None (omega arith))),
+  )
+
+  -- an entry with a row, and one without
+  pub told_dated : (s : List Span) (i to rows : ℕ) (e : Entry) → i < 257 → to ≡ i + 1 → ToldFrom f days to s → rows ≡ rows_in f (257 - to) to → e ≡ at f.entries i → entry_dated s e ≡ true
+      → ToldFrom f days i (set s i (ByDay rows)) × (rows + 1 ≡ rows_in f (257 - i) i)
+  told_dated s i to rows e small is inv counted ee yes-dated =
+      let here : dated (clause_at f i) ≡ true = sym (dated_is s i to e is inv ee) ∙ yes-dated in (
+        told_more s i to (ByDay rows) small is inv (ap ByDay (row_is i to rows small is counted) ∙ sym (cond-true (dated (clause_at f i)) (ByDay (row_of f i)) (lasting (of days i)) here)),
+        ap (λ b. rows + cond b 1 0) (sym here) ∙ rows_more f i to rows small is counted,
+      )
+
+  pub told_undated : (s : List Span) (i to rows : ℕ) (e : Entry) (x : Span) → i < 257 → to ≡ i + 1 → ToldFrom f days to s → rows ≡ rows_in f (257 - to) to → e ≡ at f.entries i → entry_dated s e ≡ false → x ≡ lasting (of days i)
+      → ToldFrom f days i (set s i x) × (rows ≡ rows_in f (257 - i) i)
+  told_undated s i to rows e x small is inv counted ee not-dated ex =
+      let here : dated (clause_at f i) ≡ false = sym (dated_is s i to e is inv ee) ∙ not-dated in
+      let none : rows + 0 ≡ rows = omega arith in (
+        told_more s i to x small is inv (ex ∙ sym (cond-false (dated (clause_at f i)) (ByDay (row_of f i)) (lasting (of days i)) here)),
+        sym none ∙ ap (λ b. rows + cond b 1 0) (sym here) ∙ rows_more f i to rows small is counted,
+      )
 
 -- a table that tells of each entry is the table of them all
 span_is : (D : Durations) (row : ℕ) (c : Clause) (b : Bool) → dated c ≡ b → cond b (ByDay row) (lasting (lasts D c)) ≡ cond b (ByDay row) (lasting (ends D c 0))

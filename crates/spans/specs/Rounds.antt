@@ -65,10 +65,6 @@ entry_dated s (entries.Template number body next) = false
 entry_dated s (entries.Condition field test next) = false
 entry_dated s (entries.Argument slot value next) = false
 
--- The span of an entry, by those of the entries past it: as many rows are given already as there are spans by day.
-abbrev pub entry_span : List Span → Option ℕ → Entry → Span
-entry_span s days e = cond (entry_dated s e) (ByDay (count_by by_day s)) (lasting days)
-
 -- The table tells the span of each entry, where entries last as given.
 abbrev pub Told : File → List (Option ℕ) → List Span → Type 0
 Told f days s = (length s ≡ 257) × ((i : ℕ) → span_of s i ≡ cond (dated (clause_at f i)) (ByDay (row_of f i)) (lasting (of days i)))

@@ -1,9 +1,9 @@
 //! Passes over the entries, from the last to the first: what an entry points to lies above it.
 ghost use Rattle.std.specs.Prelude.{◌≡◌};
 ghost use Rattle.language.specs.Ends.{duration};
-ghost use Rattle.spans.specs.Rounds.{of, following, entry_lasts, Passed, entry_dated, entry_span, Told};
+ghost use Rattle.spans.specs.Rounds.{of, following, entry_lasts, Passed, entry_dated, Told};
 
-use crate::spans::{Span, row_count, span_at};
+use crate::spans::{Span, span_at};
 use contract_file::{MOST_TEMPLATES, PLACES, ReadFile};
 use days::{Counted, day_after, earlier, later};
 use entries::Entry;
@@ -77,24 +77,23 @@ fn is_dated(entry: Entry, spans: &[Span; PLACES]) -> bool
     }
 }
 
-/// The span of an entry that lasts so many days if it reaches no calendar window. Else it is given the next row.
-fn entry_span(entry: Entry, days: Option<u32>, spans: &[Span; PLACES]) -> Span
-    ensures { result ≡ entry_span spans.now days «entry» }
-{
-    if is_dated(entry, spans) {
-        Span::ByDay(row_count(spans))
-    } else {
-        Span::from(days)
-    }
-}
-
 /// The span of each entry, by how many days those last that reach no calendar window. The others are given rows, the last
 /// of them the first.
 pub(crate) fn told(read: &ReadFile, lasts: &[Option<u32>; PLACES]) -> [Span; PLACES]
     ensures { Told read.now.file lasts.now result }
 {
     let file = read.file();
-    fill_from_last(Span::Never, |number, spans| {
-        entry_span(file.at(number), days_at(lasts, number), spans)
-    })
+    let mut spans = [Span::Never; PLACES];
+    let mut rows: u16 = 0;
+    // Kept by index: behind `fill_from_last`, whose rule is told the spans alone, the rows given so far were counted anew for each.
+    for at in (0..PLACES).rev() {
+        let number = at as u16;
+        if is_dated(file.at(number), &spans) {
+            spans[at] = Span::ByDay(rows);
+            rows += 1;
+        } else {
+            spans[at] = Span::from(days_at(lasts, number));
+        }
+    }
+    spans
 }

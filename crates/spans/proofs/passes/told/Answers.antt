@@ -1,21 +1,29 @@
-use Rattle.std.proofs.Common.{◌≡◌, rules, length, ap, ◌∙◌}
-use Rattle.contract_file.proofs.Facts.{known_sound}
+use Rattle.std.proofs.Common.{◌≡◌, ◌-◌, length, ap, sym, ◌∙◌, arith, rules}
+use Rattle.contract_file.specs.declared.files.File.{File}
 use Rattle.entries.specs.Parts.{at}
+use Rattle.spans.specs.Spans.{lasting}
+use Rattle.contract_file.proofs.Facts.{known_sound}
 use Rattle.openings.proofs.Unfolding.{leading}
-use Rattle.openings.proofs.Downward.{filled_is}
-use Rattle.spans.specs.declared.spans.Span.TheVariants.{Never}
-use Rattle.spans.specs.Rounds.{of, entry_span}
-use Rattle.spans.proofs.Telling.{all_tell, all_tell_long, entry_span_is, all_told}
+use Rattle.spans.proofs.Telling.{few_rows, rows_none, told_none, told_dated, told_undated}
 use Rattle.spans.proofs.passes.told.Goals as goal
 
-pub returns : goal.returns
-returns c =
+pub loop-at-init : goal.loop-at-init
+loop-at-init c =
     let f = c.args.read.now.file in
-    let days = c.args.lasts.now in
-    let up = leading f (known_sound f c.args.read.now.sound) in
-    let lasts_long : length days ≡ 257 = search rules in
-    let long : length c.fill_from_last.result ≡ 257 = search rules in
-    all_told f up days lasts_long c.fill_from_last.result (filled_is _ _ Never (all_tell f up days) c.fill_from_last.result (all_tell_long f up days) long c.fill_from_last.ensures
-    (λ i v small given.
-    let is : v ≡ entry_span given.seen.now (of days i) (at f.entries i) = search rules in
-    is ∙ ap (λ s. entry_span s (of days i) (at f.entries i)) given.shows ∙ entry_span_is f up days lasts_long i small))
+    let long : length c.args.lasts.now ≡ 257 = search rules in
+    (told_none f (leading f (known_sound f c.args.read.now.sound)) c.args.lasts.now long, rows_none f)
+
+pub overflow_add-rows : goal.overflow_add-rows
+overflow_add-rows c = omega (arith, c.loop-at.invariant.1, few_rows c.args.read.now.file (257 - c.loop-at.at) c.loop-at.at)
+
+pub loop-at-preserved-then-is_dated : goal.loop-at-preserved-then-is_dated
+loop-at-preserved-then-is_dated c =
+    let f = c.args.read.now.file in
+    told_dated f (leading f (known_sound f c.args.read.now.sound)) c.args.lasts.now c.loop-at.spans _ c.loop-at.at c.loop-at.rows c.at.result (omega arith) (omega arith) c.loop-at.invariant.0 c.loop-at.invariant.1
+    (c.at.ensures ∙ ap (λ (g : File). at g.entries (c.loop-at.at - 1)) c.file-file.ensures.same) (sym c.is_dated.ensures ∙ c.if-is_dated.true)
+
+pub loop-at-preserved : goal.loop-at-preserved
+loop-at-preserved c =
+    let f = c.args.read.now.file in
+    told_undated f (leading f (known_sound f c.args.read.now.sound)) c.args.lasts.now c.loop-at.spans _ c.loop-at.at c.loop-at.rows c.at.result c.from.result (omega arith) (omega arith) c.loop-at.invariant.0 c.loop-at.invariant.1
+    (c.at.ensures ∙ ap (λ (g : File). at g.entries (c.loop-at.at - 1)) c.file-file.ensures.same) (sym c.is_dated.ensures ∙ c.if-is_dated.false) (c.from.ensures ∙ ap lasting c.days_at.ensures)
