@@ -172,7 +172,7 @@ impl<R: Abort> Line<'_, R> {
                     .err()
                     .map(|refused| u32::from(refused.number()));
                 if told[0] == Some(0) {
-                    assert_eq!(rt; refused, told[1], "{text}");
+                    assert!(rt; refused.is_some() && refused == told[1], "{text}");
                     return Ok(());
                 }
                 assert_eq!(rt; refused, None, "{text}");
