@@ -1,6 +1,7 @@
 -- The nodes of a term in their order have its leaves, and their numbers are what is due.
-use Rattle.std.proofs.Common.{◌≡◌, ℕ, ◌+◌, ◌*◌, ◌/◌, ◌<◌, ◌≤◌, List, [], ◌∷◌, ◌++◌, length, take, drop, Ok, Err, sym, refl, ap, ◌∙◌, ap₂, append-nil, arith, length-append}
+use Rattle.std.proofs.Common.{◌≡◌, ℕ, ◌+◌, ◌*◌, ◌/◌, ◌<◌, ◌≤◌, List, [], ◌∷◌, ◌++◌, length, take, drop, cond, count_by, Ok, Err, sym, refl, ap, ◌∙◌, ap₂, append-nil, arith, length-append}
 use Rattle.std.proofs.lemmas.List.{take_all, drop_more, drop-drop}
+use Rattle.std.proofs.lemmas.List.Sums.{sum_by-cons}
 use Rattle.std.proofs.Math.Seq.{take-add}
 use Rattle.std.specs.List.{filter_map, flat_map}
 use Rattle.std.proofs.lemmas.List.Elements.{filter_map-append}
@@ -19,7 +20,7 @@ use Rattle.terms.specs.declared.nodes.Node.{Node}
 use Rattle.terms.specs.declared.nodes.Node.TheVariants as node
 use Rattle.terms.specs.Tables.{Is, Holds}
 use Rattle.due.specs.Dues.{leaves, dues}
-use Rattle.due.specs.Items.{Item, item_by, due_item, numbers, node_due, over}
+use Rattle.due.specs.Items.{Item, item_by, due_item, numbers, is_leaf, node_due, over}
 use Rattle.due.specs.Lists.{Listed}
 use Rattle.due.proofs.Writing.{numbers_long}
 
@@ -42,6 +43,19 @@ sides ns at k m n h =
 module _ (f : File) where
   abbrev pub items : List Node → List Item
   items ns = filter_map (node_due f) ns
+
+  -- as many items as leaves
+  one_item : (n : Node) (ns : List Node) → length (items ns) ≡ count_by is_leaf ns → length (items (n ∷ ns)) ≡ count_by is_leaf (n ∷ ns)
+  one_item node.Lost ns h = rw (sum_by-cons (λ x. cond (is_leaf x) 1 0) node.Lost ns) (omega arith)
+  one_item node.Done ns h = rw (sum_by-cons (λ x. cond (is_leaf x) 1 0) node.Done ns) (omega arith)
+  one_item (node.Leaf e row base) ns h = rw (sum_by-cons (λ x. cond (is_leaf x) 1 0) (node.Leaf e row base) ns) (omega arith)
+  one_item node.Choice ns h = rw (sum_by-cons (λ x. cond (is_leaf x) 1 0) node.Choice ns) (omega arith)
+  one_item node.Both ns h = rw (sum_by-cons (λ x. cond (is_leaf x) 1 0) node.Both ns) (omega arith)
+  one_item (node.Follow e row) ns h = rw (sum_by-cons (λ x. cond (is_leaf x) 1 0) (node.Follow e row) ns) (omega arith)
+
+  pub item_count : (ns : List Node) → length (items ns) ≡ count_by is_leaf ns
+  item_count [] = refl
+  item_count (n ∷ ns) = one_item n ns (item_count ns)
 
   pub counted : (ns : List Node) (at : ℕ) (t : Term) → Holds f ns at t → length (items (part ns at (nodes t))) ≡ leaves t
   counted ns at Done h = ap (λ l. length (items l)) (root ns at _ h)
@@ -91,21 +105,21 @@ module _ (f : File) (up : Leading f) where
       ∙ ap₂ ◌++◌ (due ns (at + 1) l h.1) (due ns (at + 1 + nodes l) r h.2)
   due ns at (Follow t c row) h = ap (due_numbers f) (under ns at (nodes t) _ h.1) ∙ due ns (at + 1) t h.3
 
-module _ (f : File) (ns : List Node) (before : List ℕ) (dues : List Item) (all : dues ≡ filter_map (node_due f) ns) (t : Term) (held : Holds f ns 0 t) (long : length ns ≡ nodes t) where
+module _ (f : File) (ns : List Node) (before : List ℕ) (count : ℕ) (is : count ≡ count_by is_leaf ns) (t : Term) (held : Holds f ns 0 t) (long : length ns ≡ nodes t) where
   whole : ns ≡ part ns 0 (nodes t)
   whole = sym (take_all (nodes t) ns (omega arith))
 
-  leaves_are : length dues ≡ leaves t
-  leaves_are = ap length all ∙ ap (λ l. length (items f l)) whole ∙ counted f ns 0 t held
+  leaves_are : count ≡ leaves t
+  leaves_are = is ∙ sym (item_count f ns) ∙ ap (λ l. length (items f l)) whole ∙ counted f ns 0 t held
 
-  pub refused : length before / 3 < length dues → Listed t before before (Err (record {}))
+  pub refused : length before / 3 < count → Listed t before before (Err (record {}))
   refused few = record { enough = λ fits. absurd (omega (arith, leaves_are)); short = λ _. (refl, refl) }
 
-  pub listed : Leading f → (after : List ℕ) (count : ℕ) → count ≡ length dues → length dues ≤ length before / 3 → after ≡ over (flat_map numbers dues) before → Listed t before after (Ok count)
-  listed up after count is fits wrote = record {
+  pub listed : Leading f → (after : List ℕ) → count ≤ length before / 3 → after ≡ over (flat_map numbers (items f ns)) before → Listed t before after (Ok count)
+  listed up after fits wrote = record {
     enough = λ _. (
-      ap Ok (is ∙ leaves_are),
-      wrote ∙ ap₂ (λ front n. front ++ drop n before) (ap (flat_map numbers) all ∙ ap (due_numbers f) whole ∙ due f up ns 0 t held) (numbers_long dues ∙ ap (λ n. 3 * n) leaves_are),
+      ap Ok leaves_are,
+      wrote ∙ ap₂ (λ front n. front ++ drop n before) (ap (due_numbers f) whole ∙ due f up ns 0 t held) (numbers_long (items f ns) ∙ ap (λ n. 3 * n) (item_count f ns ∙ sym is ∙ leaves_are)),
     );
     short = λ few. absurd (omega (arith, leaves_are));
   }

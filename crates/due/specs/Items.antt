@@ -1,5 +1,5 @@
 -- What is due by the nodes of a table: the items of its leaves, their numbers, and how these stand in a list. Assumes nothing.
-use Rattle.std.specs.Prelude.{ℕ, List, [], ◌∷◌, ◌++◌, length, drop, Some, None, Option}
+use Rattle.std.specs.Prelude.{ℕ, Bool, true, false, List, [], ◌∷◌, ◌++◌, length, drop, Some, None, Option}
 use Rattle.language.specs.Clauses.{first, last}
 use Rattle.days.specs.Windows.{meant}
 use Rattle.entries.specs.declared.entries.Entry.{Entry}
@@ -32,6 +32,14 @@ due_item f step base = item_by step base (at f.entries step)
 -- The three numbers of an item.
 abbrev pub numbers : Item → List ℕ
 numbers i = i.0 ∷ i.1 ∷ i.2 ∷ []
+
+abbrev pub is_leaf : Node → Bool
+is_leaf Lost = false
+is_leaf Done = false
+is_leaf (Leaf step row base) = true
+is_leaf Choice = false
+is_leaf Both = false
+is_leaf (Follow clause row) = false
 
 -- The item of one node: only a leaf has one.
 abbrev pub node_due : File → Node → Option Item

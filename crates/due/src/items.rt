@@ -1,6 +1,6 @@
 //! What is due of one leaf, and its three numbers in a list.
 ghost use Rattle.std.specs.Prelude.{◌≡◌};
-ghost use Rattle.due.specs.Items.{due_item, node_due};
+ghost use Rattle.due.specs.Items.{due_item, is_leaf, node_due};
 
 use contract_file::File;
 use entries::Entry;
@@ -23,6 +23,13 @@ fn due_item(file: &File, step: u16, base: u32) -> Item
         Entry::Step { window, .. } => (step, window.first_day(base), window.last_day(base)),
         _ => (step, 0, 0),
     }
+}
+
+/// Is a node a leaf?
+pub(crate) fn is_leaf(node: &Node) -> bool
+    ensures { result ≡ is_leaf node.now }
+{
+    matches!(node, Node::Leaf { .. })
 }
 
 /// The item of a node: only a leaf has one.

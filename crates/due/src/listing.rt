@@ -1,16 +1,15 @@
 //! The due list: an item for each leaf of a term, left to right, in a list that is lent.
-ghost use Rattle.std.specs.Prelude.{◌≡◌, ◌*◌, ◌≤◌, length};
+ghost use Rattle.std.specs.Prelude.{◌≡◌, ◌*◌, ◌≤◌, length, count_by};
 ghost use Rattle.std.specs.List.{filter_map, flat_map};
 ghost use Rattle.language.specs.Terms.{Term, nodes};
 ghost use Rattle.terms.specs.Tables.{Holds};
-ghost use Rattle.due.specs.Items.{node_due, numbers, over};
+ghost use Rattle.due.specs.Items.{is_leaf, node_due, numbers, over};
 ghost use Rattle.due.specs.Lists.{Listed};
 
-use crate::items::{ITEM, Item, due_of};
-use arrayvec::ArrayVec;
+use crate::items::{ITEM, due_of, is_leaf};
 use contract_file::File;
-use openings::{MOST_NODES, Openings};
-use terms::Table;
+use openings::Openings;
+use terms::{Node, Table};
 
 /// Question 18 was answered no: has the lent list three places for each leaf?
 // Kept as a type of its own with the number of docs/questions.md: a call that can fail in one way says so.
@@ -26,29 +25,23 @@ impl ShortList {
     }
 }
 
-/// What is due of a term, leaf by leaf.
-fn dues_of(file: &File, table: &Table) -> ArrayVec<Item, MOST_NODES>
-    ensures { result.items ≡ filter_map (node_due file.now) table.now.items }
+/// How many nodes are leaves.
+fn leaf_count(nodes: &[Node]) -> usize
+    ensures { result ≡ count_by is_leaf nodes.now }
 {
-    let nodes = table.as_slice();
-    let mut dues = ArrayVec::new();
-    for node in nodes {
-        if let Some(due) = due_of(file, node) {
-            dues.push(due);
-        }
-    }
-    dues
+    nodes.iter().filter(|node| is_leaf(node)).count()
 }
 
-/// Writes items into the front of a list, one behind the other.
-fn write_dues(dues: &[Item], list: &mut [u64])
-    requires { 3 * length dues.now ≤ length list.old }
-    ensures { list.new ≡ over (flat_map numbers dues.now) list.old }
+/// Writes the items of the leaves into the front of a list, one behind the other.
+fn write_dues(file: &File, nodes: &[Node], list: &mut [u64])
+    requires { 3 * length (filter_map (node_due file.now) nodes.now) ≤ length list.old }
+    ensures { list.new ≡ over (flat_map numbers (filter_map (node_due file.now) nodes.now)) list.old }
 {
+    let dues = nodes.iter().filter_map(|node| due_of(file, node));
     // Kept by place: of what is written through `chunks_exact_mut`, a proof knows nothing.
-    for (leaf, (step, first, last)) in dues.iter().enumerate() {
+    for (leaf, (step, first, last)) in dues.enumerate() {
         let place = ITEM * leaf;
-        list[place..place + ITEM].copy_from_slice(&[u64::from(*step), *first, *last]);
+        list[place..place + ITEM].copy_from_slice(&[u64::from(step), first, last]);
     }
 }
 
@@ -58,10 +51,11 @@ fn write_dues(dues: &[Item], list: &mut [u64])
 pub fn due_list(openings: &Openings, table: &Table, list: &mut [u64]) -> Result<usize, ShortList>
     ensures { (t : Term) → Holds openings.now.read.file table.now.items 0 t → length table.now.items ≡ nodes t → Listed t list.old list.new result }
 {
-    let dues = dues_of(openings.file(), table);
-    if list.len() / ITEM < dues.len() {
+    let nodes = table.as_slice();
+    let leaves = leaf_count(nodes);
+    if list.len() / ITEM < leaves {
         return Err(ShortList);
     }
-    write_dues(dues.as_slice(), list);
-    Ok(dues.len())
+    write_dues(openings.file(), nodes, list);
+    Ok(leaves)
 }

@@ -13,7 +13,7 @@ use crate::foreseen::Foreseen;
 use crate::held::Held;
 use due::{ShortList, due_list};
 use kinds::Kind;
-use outlook::end_day;
+use outlook::end_from;
 use residuals::hold;
 use terms::{Table, TooLarge, open_contract};
 
@@ -61,6 +61,6 @@ impl Held {
     pub fn end_day(&self, clock: u32) -> Option<u32>
         ensures { (t : Term) → Holding self.now t → result ≡ end_day (durations (templates_of (file_of self.now))) t clock }
     {
-        end_day(&self.foreseen.prospect, &self.table, clock)
+        end_from(&self.foreseen.prospect, &self.table, clock)
     }
 }

@@ -3,9 +3,10 @@ ghost use Rattle.std.specs.Prelude.{◌≡◌};
 ghost use Rattle.entries.specs.Parts.{at};
 ghost use Rattle.outlook.specs.Outlooks.{lost_outlook, done_outlook, leaf_end, leaf_outlook, choice_outlook, both_outlook, follow_outlook, end_of};
 
+use crate::ahead::Ahead;
 use days::{earlier, later};
 use entries::Entry;
-use horizon::{Horizon, Prospect};
+use horizon::Horizon;
 
 /// The ends of a term at a clock.
 // Kept as two facts: a term that may end as it stands can also end later, so `ends` is no flag of `next`.
@@ -44,12 +45,12 @@ impl Outlook {
     }
 
     /// A leaf waits for a record that meets its step.
-    pub(crate) fn leaf(prospect: &Prospect, step: u16, base: u32, clock: u32) -> Outlook
-        ensures { result ≡ leaf_outlook prospect.now.openings.read.file prospect.now.horizon step base clock }
+    pub(crate) fn leaf(ahead: &Ahead, step: u16, base: u32, clock: u32) -> Outlook
+        ensures { result ≡ leaf_outlook ahead.now.openings.now.read.file ahead.now.horizon.now step base clock }
     {
         Outlook {
             ends: false,
-            next: leaf_end(prospect, step, base, clock),
+            next: leaf_end(ahead, step, base, clock),
         }
     }
 
@@ -86,13 +87,13 @@ impl Outlook {
 }
 
 /// The earliest end of a step that is met on the first day of its window that the clock leaves, and of its tail from that day.
-fn leaf_end(prospect: &Prospect, step: u16, base: u32, clock: u32) -> Option<u32>
-    ensures { result ≡ leaf_end prospect.now.horizon base clock (at prospect.now.openings.read.file.entries step) }
+fn leaf_end(ahead: &Ahead, step: u16, base: u32, clock: u32) -> Option<u32>
+    ensures { result ≡ leaf_end ahead.now.horizon.now base clock (at ahead.now.openings.now.read.file.entries step) }
 {
-    match prospect.openings.file().at(step) {
+    match ahead.openings.file().at(step) {
         Entry::Step { window, tail, .. } => {
             let day = window.reach(base, clock)?;
-            prospect.horizon.end(tail, day)
+            ahead.horizon.end(tail, day)
         }
         _ => None,
     }

@@ -1,10 +1,35 @@
-use Rattle.std.proofs.Common.{[], ◌∷◌, slice_index_or, ap, ◌∙◌, arith}
-use Rattle.due.proofs.Writing.{one_more, all_written}
+use Rattle.std.proofs.Common.{◌*◌, [], ◌∷◌, length, rules, ap, ◌∙◌, arith}
+use Rattle.std.specs.List.{filter_map}
+use Rattle.std.proofs.lemmas.Iterator.{YieldsList-from_slice}
+use Rattle.std.proofs.lemmas.Iterator.Consumers.{YieldsList-at, YieldsList-from_filter_map, YieldsList-from_enumerate, YieldsList-turn, YieldsList-end}
+use Rattle.std.proofs.lemmas.List.{length_push}
+use Rattle.std.proofs.lemmas.List.FromFn.{length-enumerate_from}
+use borrow.Author.Tests.{tests}
+use Rattle.due.specs.Items.{node_due, numbers}
+use Rattle.due.proofs.Writing.{Stands, stands, one_more, all_written}
 use Rattle.due.proofs.listing.write_dues.Goals as goal
+use Rattle.due.proofs.listing.write_dues.Goals.{In-Some}
+
+turn : (c : In-Some) → Stands (filter_map (node_due c.args.file.now) c.args.nodes.now) (length c.loop-leaf.yielded) c.in-Some.leaf (c.in-Some.step, c.in-Some.first, c.in-Some.last)
+turn c =
+    stands _ _ _ (YieldsList-turn (YieldsList-at c.into_iter-leaf-iterator.ensures.into_iter_gives (YieldsList-from_enumerate
+    (YieldsList-at c.enumerate-leaf-items.ensures.source (YieldsList-from_filter_map _ (node_due c.args.file.now)
+    (YieldsList-from_slice c.args.nodes.now (cc)) c.filter_map-dues.ensures.closure (λ x r q k. search (rules, tests))))
+    c.enumerate-leaf-items.ensures.count)) c.loop-leaf.yielded _ c.loop-leaf.yielded_by _ _ _ c.in-Some.is c.next.ensures.steps)
+
+pub slice_bounds-copy_from_slice-end : goal.slice_bounds-copy_from_slice-end
+slice_bounds-copy_from_slice-end c = (let here = turn (goal.at.slice_bounds-copy_from_slice-end c).In-Some in omega arith)
 
 pub loop-leaf-preserved : goal.loop-leaf-preserved
 loop-leaf-preserved c =
-    one_more c.args.dues.now c.args.list.now c.loop-leaf.leaf _ c.loop-leaf.list _ _ c.loop-leaf-test.true (omega (arith, c.requires, c.loop-leaf.auto.list)) (omega arith) (c.copy_from_slice.ensures.after ∙ ap (λ n. n ∷ (slice_index_or c.args.dues.now c.loop-leaf.leaf (0, 0, 0)).1 ∷ (slice_index_or c.args.dues.now c.loop-leaf.leaf (0, 0, 0)).2 ∷ []) c.from.ensures) c.loop-leaf.invariant
+    let here = turn (goal.at.loop-leaf-preserved c).In-Some in
+    one_more _ c.args.list.now (length c.loop-leaf.yielded) _ _ _ c.loop-leaf.list _ _ here.within (length_push c.loop-leaf.yielded _) (ap (λ n. 3 * n) here.at) (omega arith) (omega arith)
+    (c.copy_from_slice.ensures.after ∙ ap (λ n. n ∷ c.in-Some.first ∷ c.in-Some.last ∷ []) c.from.ensures ∙ ap numbers here.is) c.loop-leaf.invariant
 
 pub returns : goal.returns
-returns c = all_written c.args.dues.now c.args.list.now c.loop-leaf.leaf c.loop-leaf.list (omega arith) c.loop-leaf.invariant (omega arith)
+returns c =
+    let ended = YieldsList-end (YieldsList-at c.into_iter-leaf-iterator.ensures.into_iter_gives (YieldsList-from_enumerate
+    (YieldsList-at c.enumerate-leaf-items.ensures.source (YieldsList-from_filter_map _ (node_due c.args.file.now)
+    (YieldsList-from_slice c.args.nodes.now (cc)) c.filter_map-dues.ensures.closure (λ x r q k. search (rules, tests))))
+    c.enumerate-leaf-items.ensures.count)) c.loop-leaf.yielded _ c.loop-leaf.yielded_by _ _ c.in-None.is c.next.ensures.steps in
+    all_written _ c.args.list.now _ c.loop-leaf.list (ended.1 ∙ length-enumerate_from 0 _) c.loop-leaf.invariant
