@@ -8,10 +8,14 @@ use Rattle.terms.specs.declared.nodes.Node.TheVariants as node
 use Rattle.terms.specs.Tables.{Holds, Wrote}
 use Rattle.terms.proofs.Writing.{held_within, moved}
 
+-- the nodes of a term are as many as it has
+pub copied_long : (f : File) (ns : List Node) (from to : ℕ) (t : Term) → Holds f ns from t → to ≡ from + nodes t → length (slice_range ns from to) ≡ nodes t
+copied_long f ns from to t h ends = (let room = held_within f ns from t h in simp (length-take, length-drop) (omega arith))
+
 -- the nodes of a term, behind others
 module _ (f : File) (ns before after : List Node) (from to : ℕ) (t : Term) (h : Holds f ns from t) (ends : to ≡ from + nodes t) (is : after ≡ before ++ slice_range ns from to) where
   long : length (slice_range ns from to) ≡ nodes t
-  long = (let room = held_within f ns from t h in simp (length-take, length-drop) (omega arith))
+  long = copied_long f ns from to t h ends
 
   same : (k : ℕ) → k < nodes t → get_or after (length before + k) node.Lost ≡ get_or ns (from + k) node.Lost
   same k less =

@@ -26,7 +26,7 @@ use Rattle.residuals.specs.declared.rests.Rest.{Rest}
 use Rattle.residuals.specs.declared.rests.Rest.TheVariants as rest
 use Rattle.residuals.specs.Marked.{file_of, nodes_of, Stands, mark_at, opened_if, left}
 use Rattle.residuals.specs.Weights.{weight_of, weight_in}
-use Rattle.residuals.specs.Rests.{Ready, left_of, place, side_term, side_shape, leaf_rest, choice_rest, both_rest, follow_rest, second_at, rest_by, BuildsBoth}
+use Rattle.residuals.specs.Rests.{Ready, left_of, place, side_term, side_shape, leaf_rest, choice_rest, both_rest, follow_rest, second_at, rest_by, BuildsBoth, HasRoom}
 use Rattle.residuals.proofs.Weighing.{opens}
 
 module _ (w : Weighed) where
@@ -79,6 +79,14 @@ module _ (w : Weighed) where
 
   pub both_some : (l r : Side) (x : Ready w (place l)) (y : Ready w (place r)) → 0 < shapes.size (both_shape (side_shape weights l) (side_shape weights r))
   both_some l r x y = omega (arith, both_size l r x y, some_nodes (both_of (side_term l x) (side_term r y)))
+
+  -- where they fit there is room for the first
+  pub left_fits : (ns : List Node) (at : ℕ) (x : Ready w at) → HasRoom ns (weight_in weights at).left → length ns < 256
+  left_fits ns at x room = omega (arith, room, left_some at x)
+
+  pub both_fits : (ns : List Node) (l r : Side) (x : Ready w (place l)) (y : Ready w (place r))
+      → HasRoom ns (both_shape (side_shape weights l) (side_shape weights r)) → length ns < 256
+  both_fits ns l r x y room = omega (arith, room, both_some l r x y)
 
   pub halved : (l r : Side) (x : Ready w (place l)) (y : Ready w (place r)) (a b : Shape) (h : Option Tidied) → h ≡ tidied_both a b
       → a ≡ side_shape weights l → b ≡ side_shape weights r → BothLeaves (side_term l x) (side_term r y) h

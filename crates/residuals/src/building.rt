@@ -14,7 +14,6 @@ impl Weighed<'_> {
     // Kept in three contracts that the place is ready and that there is room: each asks it of another place and another size.
     /// Writes what is left of the term at a place.
     #[cycle(build_build_both_build_side)]
-    #[tactic(auto, using(crate::proofs::Resting::left_some))]
     pub(crate) fn build(&self, at: usize, out: &mut Table)
         requires ready { Ready self.now at }
         requires room { HasRoom out.old.items (weight_in self.now.weights.now at).left }
@@ -59,7 +58,6 @@ impl Weighed<'_> {
 
     /// Writes a both of two sides.
     #[cycle(build_build_both_build_side)]
-    #[tactic(auto, using(crate::proofs::Resting::both_some))]
     fn build_both(&self, left: Side, right: Side, out: &mut Table)
         requires in_order { place left < place right }
         requires ready { Ready self.now (place left) }
@@ -90,8 +88,7 @@ impl Weighed<'_> {
             Side::Taken(at) => self.build(at, out),
             Side::Kept(at) => {
                 let end = at + usize::from(self.weight(at).held.size());
-                let kept = out.try_extend_from_slice(&self.marked.nodes[at..end]);
-                kept.unwrap();
+                out.extend_from_slice(&self.marked.nodes[at..end]);
             }
         }
     }

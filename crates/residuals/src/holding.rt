@@ -1,5 +1,5 @@
 //! Holding a record against a term.
-ghost use Rattle.std.specs.Prelude.{◌≡◌};
+ghost use Rattle.std.specs.Prelude.{◌≡◌, OnErr};
 ghost use Rattle.language.specs.Terms.{Term};
 ghost use Rattle.language.specs.Residuals.{residual};
 ghost use Rattle.openings.specs.Clauses.{templates_of};
@@ -23,7 +23,8 @@ pub fn hold<K: Kind>(
     table: &mut Table,
 ) -> Result<(), TooLarge>
     requires tree { SomeTerm openings.now.read.file table.old.items 0 }
-    ensures { (t : Term) → Holds openings.now.read.file table.old.items 0 t → Replaced openings.now.read.file (residual K.Kind.meaning (templates_of openings.now.read.file) t r.now) table.old.items table.new.items result }
+    ensures replaced { (t : Term) → Holds openings.now.read.file table.old.items 0 t → Replaced openings.now.read.file (residual K.Kind.meaning (templates_of openings.now.read.file) t r.now) table.old.items table.new.items result }
+    ensures refused { OnErr result (table.new ≡ table.old) }
 {
     let nodes = table.as_slice();
     let marks = marks_of(kind, openings.file(), r, nodes);

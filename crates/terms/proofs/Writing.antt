@@ -20,6 +20,10 @@ some_nodes (Choice l r) = omega arith
 some_nodes (Both l r) = omega arith
 some_nodes (Follow t c row) = omega arith
 
+-- where a term fits there is room for its first node
+pub first_fits : (k : ℕ) (t : Term) → k + nodes t ≤ 256 → k < 256
+first_fits k t fits = omega (arith, some_nodes t)
+
 -- the same nodes, at another place too, hold the same term
 module _ (f : File) (ns ms : List Node) where
   abbrev pub Moved : ℕ → ℕ → ℕ → Type 0

@@ -7,6 +7,11 @@ use Rattle.openings.specs.Clauses.{clause_at}
 use Rattle.terms.specs.declared.nodes.Node.{Node}
 use Rattle.terms.specs.declared.nodes.Node.TheVariants as node
 
+-- What a contract sees of a table: its nodes in order, and what the places behind them hold, of which no clause says anything.
+pub record Table : Type 0 where
+  pub items : List Node
+  pub spare : List Node
+
 -- A node stands at a place.
 abbrev pub Is : List Node → ℕ → Node → Type 0
 Is ns at n = (at < length ns) × (slice_index_or ns at node.Lost ≡ n)

@@ -1,7 +1,9 @@
 //! A term in a table of nodes, in preorder: a node before its parts, the left part first.
-use arrayvec::ArrayVec;
+ghost use Rattle.std.specs.Prelude.{◌≡◌, ◌+◌, ◌<◌, ◌≤◌, [], ◌∷◌, ◌++◌, length};
+
 use kinds::Row;
 use openings::MOST_NODES;
+use std::marker::Model;
 
 /// One node of a term. Steps and clauses are named by their entries.
 #[derive(Clone, Copy, Debug, Default, PartialEq, Eq)]
@@ -15,6 +17,95 @@ pub enum Node {
     Follow { clause: u16, row: Row },
 }
 
-/// A term's nodes.
-// Kept as nodes in preorder, with no boxes: the running contract never allocates.
-pub type Table = ArrayVec<Node, MOST_NODES>;
+/// A term's nodes: the first `len` places are in use.
+// Kept as nodes in the value itself, with no boxes: the running contract never allocates.
+#[derive(Clone, Copy)]
+pub struct Table {
+    nodes: [Node; MOST_NODES],
+    len: usize,
+}
+
+impl Model for Table {
+    ghost use Rattle.std.specs.Prelude.{◌≡◌, ◌≤◌, ◌++◌, length, take, drop};
+    ghost use Rattle.std.proofs.Common.{sym, subst, take-append-drop, length-take-le};
+    ghost use Rattle.terms.specs.Tables.{Table as Nodes};
+
+    ghost Value = { Nodes };
+
+    ghost view = { λ t. record { items = take t.len t.nodes; spare = drop t.len t.nodes } };
+
+    ghost invariant = { λ t. (t.len ≤ 256) × (length t.nodes ≡ 256) };
+
+    ghost inverse = { λ t. record { nodes = t.items ++ t.spare; len = length t.items } };
+
+    ghost inverse_ok = { λ t h i. record {
+      nodes = take-append-drop t.len t.nodes i;
+      len = length-take-le t.len t.nodes (subst (λ n. t.len ≤ n) (sym h.1) h.0) i;
+    } };
+}
+
+impl Table {
+    /// No nodes yet.
+    pub fn new() -> Table
+        ensures { result.items ≡ [] }
+    {
+        Table {
+            nodes: [Node::Lost; MOST_NODES],
+            len: 0,
+        }
+    }
+
+    /// How many nodes there are.
+    pub fn len(&self) -> usize
+        ensures value { result ≡ length self.now.items }
+        ensures fits { result ≤ 256 }
+    {
+        self.as_slice().len()
+    }
+
+    /// The nodes.
+    pub fn as_slice(&self) -> &[Node]
+        ensures value { result.now ≡ self.now.items }
+        ensures fits { length result.now ≤ 256 }
+    {
+        &self.nodes[..self.len]
+    }
+
+    /// How many more nodes there is room for.
+    pub fn remaining_capacity(&self) -> usize
+        ensures { result + length self.now.items ≡ 256 }
+    {
+        MOST_NODES - self.len
+    }
+
+    /// One more node, if there is room: a full table stays as it was.
+    pub fn push(&mut self, node: Node)
+        ensures items { length self.old.items < 256 → self.new.items ≡ self.old.items ++ node ∷ [] }
+        ensures len { length self.old.items < 256 → length self.new.items ≡ length self.old.items + 1 }
+        ensures full { 256 ≤ length self.old.items → self.new ≡ self.old }
+    {
+        if self.len < MOST_NODES {
+            self.nodes[self.len] = node;
+            self.len += 1;
+        }
+    }
+
+    /// More nodes, if there is room for all of them: otherwise the table stays as it was.
+    pub fn extend_from_slice(&mut self, more: &[Node])
+        ensures items { length self.old.items + length more.now ≤ 256 → self.new.items ≡ self.old.items ++ more.now }
+        ensures full { 256 < length self.old.items + length more.now → self.new ≡ self.old }
+    {
+        if more.len() <= self.remaining_capacity() {
+            let end = self.len + more.len();
+            self.nodes[self.len..end].copy_from_slice(more);
+            self.len = end;
+        }
+    }
+
+    /// No nodes any more.
+    pub fn clear(&mut self)
+        ensures { self.new.items ≡ [] }
+    {
+        self.len = 0;
+    }
+}

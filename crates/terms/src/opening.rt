@@ -1,5 +1,5 @@
 //! Opening a clause: its term, tidied, written behind a table's nodes.
-ghost use Rattle.std.specs.Prelude.{◌≡◌, ◌+◌, ◌<◌, ◌≤◌, length};
+ghost use Rattle.std.specs.Prelude.{◌≡◌, ◌+◌, ◌<◌, ◌≤◌, length, OnErr};
 ghost use Rattle.kinds.specs.Rows.{zeros};
 ghost use Rattle.language.specs.Clauses.{body};
 ghost use Rattle.language.specs.Terms.{BareBelow, nodes, opened};
@@ -22,7 +22,6 @@ const ABOVE_TEMPLATES: u8 = MOST_TEMPLATES as u8 + 1;
 // Kept as parameters: a call goes on from a row of its own, and what stays the same is passed on as it is.
 /// Writes what the clause of an entry opens to, from a row and on a base day. Its bare calls name templates below `level`.
 #[cycle(open_call_open_from)]
-#[tactic(auto, using(crate::proofs::Writing::some_nodes))]
 fn open_from(openings: &Openings, level: u8, at: u16, row: &Row, base: u32, out: &mut Table)
     requires bare { BareBelow level (clause_at openings.now.read.file at) }
     requires room { length out.old.items + nodes (opens openings.now.read.file row.now base at) ≤ 256 }
@@ -94,7 +93,8 @@ pub fn open_clause(openings: &Openings, clause: u16, row: &Row, base: u32, out: 
 
 /// Makes the table what the contract opens to, from zeros and on a day, if that has at most 256 nodes; else leaves it.
 pub fn open_contract(openings: &Openings, day: u32, out: &mut Table) -> Result<(), TooLarge>
-    ensures { Replaced openings.now.read.file (opens openings.now.read.file zeros day openings.now.read.file.contract) out.old.items out.new.items result }
+    ensures replaced { Replaced openings.now.read.file (opens openings.now.read.file zeros day openings.now.read.file.contract) out.old.items out.new.items result }
+    ensures refused { OnErr result (out.new ≡ out.old) }
 {
     let contract = openings.file().contract;
     if usize::from(openings.at(contract).size()) > MOST_NODES {

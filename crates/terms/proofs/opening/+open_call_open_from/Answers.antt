@@ -1,4 +1,4 @@
-use Rattle.std.proofs.Common.{◌≡◌, sym, refl, ap, ◌∙◌, subst, arith}
+use Rattle.std.proofs.Common.{◌≡◌, ◌<◌, length, sym, refl, ap, ◌∙◌, subst, arith}
 use Rattle.kinds.specs.Rows.{fill}
 use Rattle.language.specs.Clauses.{Clause, body}
 use Rattle.language.specs.Terms.{BareBelow, nodes, opened}
@@ -9,7 +9,7 @@ use Rattle.openings.proofs.Unfolding.{body_is}
 use Rattle.openings.proofs.Guarding.{guarded}
 use Rattle.terms.specs.Plans.{opens}
 use Rattle.terms.proofs.Planning.{plans, sound_file}
-use Rattle.terms.proofs.Writing.{some_nodes, longer, retold, write_lost, write_done, write_leaf, write_choice, write_both, write_follow}
+use Rattle.terms.proofs.Writing.{some_nodes, first_fits, longer, retold, write_lost, write_done, write_leaf, write_choice, write_both, write_follow}
 use Rattle.terms.proofs.opening.+open_call_open_from.Goals as goal
 
 -- Kept in each answer: each has a view of the function's steps of its own, to which the lemma has to be applied.
@@ -29,13 +29,6 @@ open_call-returns t c =
     let is : body (templates_of f) k ≡ clause_at f c.body-first.result = body_is f k c.requires.named.0 c.requires.named.1 ∙ sym (ap (clause_at f) (c.body-first.ensures ∙ ap (λ g. body_at g k) c.file.ensures.same)) in
     retold f _ _ _ _ (ap (λ x. opened (templates_of f) x c.args.row.now c.args.base) is) c.open_from.ensures
 
-pub open_from-push-requires-in-Skip-2 : goal.open_from-push-requires-in-Skip-2
-open_from-push-requires-in-Skip-2 t c =
-    let f = c.args.openings.now.read.file in
-    let of = opens f c.args.row.now c.args.base in
-    let p = plans c.args.openings.now c.args.level c.args.at c.args.row.now c.args.base _ c.in-Skip.ensures in
-    omega (arith, c.requires.room, ap nodes p.0, some_nodes (of c.in-Skip.left), c.push-in-Skip.ensures.len)
-
 pub open_from-open_from-requires : goal.open_from-open_from-requires
 open_from-open_from-requires t c =
     let p = plans c.args.openings.now c.args.level c.args.at c.args.row.now c.args.base _ c.in-Only.ensures in
@@ -45,50 +38,60 @@ open_from-open_from-requires t c =
 pub open_from-open_from-requires-in-Choice : goal.open_from-open_from-requires-in-Choice
 open_from-open_from-requires-in-Choice t c =
     let p = plans c.args.openings.now c.args.level c.args.at c.args.row.now c.args.base _ c.in-Choice.ensures in
+    let room = first_fits _ _ c.requires.room in
     let up = p.1.up in
-    (omega arith, (p.1.below c.requires.bare, omega (arith, c.requires.room, ap nodes p.0, c.push-in-Choice.ensures.len)))
+    (omega arith, (p.1.below c.requires.bare, omega (arith, c.requires.room, ap nodes p.0, c.push-in-Choice.ensures.len room)))
 
 pub open_from-open_from-requires-in-Choice-2 : goal.open_from-open_from-requires-in-Choice-2
 open_from-open_from-requires-in-Choice-2 t c =
     let f = c.args.openings.now.read.file in
     let of = opens f c.args.row.now c.args.base in
     let p = plans c.args.openings.now c.args.level c.args.at c.args.row.now c.args.base _ c.in-Choice.ensures in
+    let room = first_fits _ _ c.requires.room in
     let up = p.2.up in
-    (omega arith, (p.2.below c.requires.bare, omega (arith, c.requires.room, ap nodes p.0, c.push-in-Choice.ensures.len, longer f _ _ (of c.in-Choice.left) c.open_from-in-Choice.ensures)))
+    (omega arith, (p.2.below c.requires.bare, omega (arith, c.requires.room, ap nodes p.0, c.push-in-Choice.ensures.len room, longer f _ _ (of c.in-Choice.left) c.open_from-in-Choice.ensures)))
 
 pub open_from-open_from-requires-in-Both : goal.open_from-open_from-requires-in-Both
 open_from-open_from-requires-in-Both t c =
     let p = plans c.args.openings.now c.args.level c.args.at c.args.row.now c.args.base _ c.in-Both.ensures in
+    let room = first_fits _ _ c.requires.room in
     let up = p.1.up in
-    (omega arith, (p.1.below c.requires.bare, omega (arith, c.requires.room, ap nodes p.0, c.push-in-Both.ensures.len)))
+    (omega arith, (p.1.below c.requires.bare, omega (arith, c.requires.room, ap nodes p.0, c.push-in-Both.ensures.len room)))
 
 pub open_from-open_from-requires-in-Both-2 : goal.open_from-open_from-requires-in-Both-2
 open_from-open_from-requires-in-Both-2 t c =
     let f = c.args.openings.now.read.file in
     let of = opens f c.args.row.now c.args.base in
     let p = plans c.args.openings.now c.args.level c.args.at c.args.row.now c.args.base _ c.in-Both.ensures in
+    let room = first_fits _ _ c.requires.room in
     let up = p.2.up in
-    (omega arith, (p.2.below c.requires.bare, omega (arith, c.requires.room, ap nodes p.0, c.push-in-Both.ensures.len, longer f _ _ (of c.in-Both.left) c.open_from-in-Both.ensures)))
+    (omega arith, (p.2.below c.requires.bare, omega (arith, c.requires.room, ap nodes p.0, c.push-in-Both.ensures.len room, longer f _ _ (of c.in-Both.left) c.open_from-in-Both.ensures)))
 
 pub open_from-open_from-requires-in-Follow : goal.open_from-open_from-requires-in-Follow
 open_from-open_from-requires-in-Follow t c =
     let p = plans c.args.openings.now c.args.level c.args.at c.args.row.now c.args.base _ c.in-Follow.ensures in
+    let room = first_fits _ _ c.requires.room in
     let up = p.1.up in
-    (omega arith, (p.1.below c.requires.bare, omega (arith, c.requires.room, ap nodes p.0, c.push-in-Follow.ensures.len)))
+    (omega arith, (p.1.below c.requires.bare, omega (arith, c.requires.room, ap nodes p.0, c.push-in-Follow.ensures.len room)))
 
 pub open_from-open_from-requires-in-Skip : goal.open_from-open_from-requires-in-Skip
 open_from-open_from-requires-in-Skip t c =
+    let of = opens c.args.openings.now.read.file c.args.row.now c.args.base in
     let p = plans c.args.openings.now c.args.level c.args.at c.args.row.now c.args.base _ c.in-Skip.ensures in
+    let room = first_fits _ _ c.requires.room in
+    let next : length c.push-in-Skip.new.self.items < 256 = omega (arith, c.requires.room, ap nodes p.0, some_nodes (of c.in-Skip.left), c.push-in-Skip.ensures.len room) in
     let up = p.1.up in
-    (omega arith, (p.1.below c.requires.bare, omega (arith, c.requires.room, ap nodes p.0, c.push-in-Skip.ensures.len, c.push-in-Skip-2.ensures.len)))
+    (omega arith, (p.1.below c.requires.bare, omega (arith, c.requires.room, ap nodes p.0, c.push-in-Skip.ensures.len room, c.push-in-Skip-2.ensures.len next)))
 
 pub open_from-open_from-requires-in-Skip-2 : goal.open_from-open_from-requires-in-Skip-2
 open_from-open_from-requires-in-Skip-2 t c =
     let f = c.args.openings.now.read.file in
     let of = opens f c.args.row.now c.args.base in
     let p = plans c.args.openings.now c.args.level c.args.at c.args.row.now c.args.base _ c.in-Skip.ensures in
+    let room = first_fits _ _ c.requires.room in
+    let next : length c.push-in-Skip.new.self.items < 256 = omega (arith, c.requires.room, ap nodes p.0, some_nodes (of c.in-Skip.left), c.push-in-Skip.ensures.len room) in
     let up = p.2.up in
-    (omega arith, (p.2.below c.requires.bare, omega (arith, c.requires.room, ap nodes p.0, c.push-in-Skip.ensures.len, c.push-in-Skip-2.ensures.len, longer f _ _ (of c.in-Skip.left) c.open_from-in-Skip.ensures)))
+    (omega arith, (p.2.below c.requires.bare, omega (arith, c.requires.room, ap nodes p.0, c.push-in-Skip.ensures.len room, c.push-in-Skip-2.ensures.len next, longer f _ _ (of c.in-Skip.left) c.open_from-in-Skip.ensures)))
 
 pub open_from-open_call-requires : goal.open_from-open_call-requires
 open_from-open_call-requires t c =
@@ -104,19 +107,22 @@ pub open_from-returns-in-Lost : goal.open_from-returns-in-Lost
 open_from-returns-in-Lost t c =
     let f = c.args.openings.now.read.file in
     let p = plans c.args.openings.now c.args.level c.args.at c.args.row.now c.args.base _ c.in-Lost.ensures in
-    retold f _ _ _ _ p (write_lost f _ _ c.push.ensures.items)
+    let room = first_fits _ _ c.requires.room in
+    retold f _ _ _ _ p (write_lost f _ _ (c.push.ensures.items room))
 
 pub open_from-returns-in-Done : goal.open_from-returns-in-Done
 open_from-returns-in-Done t c =
     let f = c.args.openings.now.read.file in
     let p = plans c.args.openings.now c.args.level c.args.at c.args.row.now c.args.base _ c.in-Done.ensures in
-    retold f _ _ _ _ p (write_done f _ _ c.push-in-Done.ensures.items)
+    let room = first_fits _ _ c.requires.room in
+    retold f _ _ _ _ p (write_done f _ _ (c.push-in-Done.ensures.items room))
 
 pub open_from-returns-in-Leaf : goal.open_from-returns-in-Leaf
 open_from-returns-in-Leaf t c =
     let f = c.args.openings.now.read.file in
     let p = plans c.args.openings.now c.args.level c.args.at c.args.row.now c.args.base _ c.in-Leaf.ensures in
-    retold f _ _ _ _ (ap (λ x. opened (templates_of f) x c.args.row.now c.args.base) p.is ∙ (opening_rules _).of_step _ _ _ _ _ _) (write_leaf f _ _ _ _ _ _ _ _ p.is c.push-in-Leaf.ensures.items)
+    let room = first_fits _ _ c.requires.room in
+    retold f _ _ _ _ (ap (λ x. opened (templates_of f) x c.args.row.now c.args.base) p.is ∙ (opening_rules _).of_step _ _ _ _ _ _) (write_leaf f _ _ _ _ _ _ _ _ p.is (c.push-in-Leaf.ensures.items room))
 
 pub open_from-returns-in-Only : goal.open_from-returns-in-Only
 open_from-returns-in-Only t c =
@@ -129,30 +135,35 @@ open_from-returns-in-Choice t c =
     let f = c.args.openings.now.read.file in
     let of = opens f c.args.row.now c.args.base in
     let p = plans c.args.openings.now c.args.level c.args.at c.args.row.now c.args.base _ c.in-Choice.ensures in
-    retold f _ _ _ _ p.0 (write_choice f _ _ _ _ (of c.in-Choice.left) (of c.in-Choice.right) c.push-in-Choice.ensures.items c.open_from-in-Choice.ensures c.open_from-in-Choice-2.ensures)
+    let room = first_fits _ _ c.requires.room in
+    retold f _ _ _ _ p.0 (write_choice f _ _ _ _ (of c.in-Choice.left) (of c.in-Choice.right) (c.push-in-Choice.ensures.items room) c.open_from-in-Choice.ensures c.open_from-in-Choice-2.ensures)
 
 pub open_from-returns-in-Both : goal.open_from-returns-in-Both
 open_from-returns-in-Both t c =
     let f = c.args.openings.now.read.file in
     let of = opens f c.args.row.now c.args.base in
     let p = plans c.args.openings.now c.args.level c.args.at c.args.row.now c.args.base _ c.in-Both.ensures in
-    retold f _ _ _ _ p.0 (write_both f _ _ _ _ (of c.in-Both.left) (of c.in-Both.right) c.push-in-Both.ensures.items c.open_from-in-Both.ensures c.open_from-in-Both-2.ensures)
+    let room = first_fits _ _ c.requires.room in
+    retold f _ _ _ _ p.0 (write_both f _ _ _ _ (of c.in-Both.left) (of c.in-Both.right) (c.push-in-Both.ensures.items room) c.open_from-in-Both.ensures c.open_from-in-Both-2.ensures)
 
 pub open_from-returns-in-Follow : goal.open_from-returns-in-Follow
 open_from-returns-in-Follow t c =
     let f = c.args.openings.now.read.file in
     let of = opens f c.args.row.now c.args.base in
     let p = plans c.args.openings.now c.args.level c.args.at c.args.row.now c.args.base _ c.in-Follow.ensures in
-    retold f _ _ _ _ p.0 (write_follow f _ _ _ (of c.in-Follow.left) _ _ _ refl c.push-in-Follow.ensures.items c.open_from-in-Follow.ensures)
+    let room = first_fits _ _ c.requires.room in
+    retold f _ _ _ _ p.0 (write_follow f _ _ _ (of c.in-Follow.left) _ _ _ refl (c.push-in-Follow.ensures.items room) c.open_from-in-Follow.ensures)
 
 pub open_from-returns-in-Skip : goal.open_from-returns-in-Skip
 open_from-returns-in-Skip t c =
     let f = c.args.openings.now.read.file in
     let of = opens f c.args.row.now c.args.base in
     let p = plans c.args.openings.now c.args.level c.args.at c.args.row.now c.args.base _ c.in-Skip.ensures in
+    let room = first_fits _ _ c.requires.room in
+    let next : length c.push-in-Skip.new.self.items < 256 = omega (arith, c.requires.room, ap nodes p.0, some_nodes (of c.in-Skip.left), c.push-in-Skip.ensures.len room) in
     retold f _ _ _ _ p.0
-    (write_choice f _ _ _ _ _ (of c.in-Skip.right) c.push-in-Skip.ensures.items
-    (write_follow f _ _ _ (of c.in-Skip.left) _ _ _ refl c.push-in-Skip-2.ensures.items c.open_from-in-Skip.ensures) c.open_from-in-Skip-2.ensures)
+    (write_choice f _ _ _ _ _ (of c.in-Skip.right) (c.push-in-Skip.ensures.items room)
+    (write_follow f _ _ _ (of c.in-Skip.left) _ _ _ refl (c.push-in-Skip-2.ensures.items next) c.open_from-in-Skip.ensures) c.open_from-in-Skip-2.ensures)
 
 pub open_from-returns-in-Call : goal.open_from-returns-in-Call
 open_from-returns-in-Call t c =

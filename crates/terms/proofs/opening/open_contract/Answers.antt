@@ -8,13 +8,13 @@ use Rattle.terms.proofs.Writing.{retold}
 use Rattle.terms.proofs.Joining.{replaced, refused}
 use Rattle.terms.proofs.opening.open_contract.Goals as goal
 
-pub returns-then-from-gt-MOST_NODES : goal.returns-then-from-gt-MOST_NODES
-returns-then-from-gt-MOST_NODES c =
+pub returns-then-from-gt-MOST_NODES-clause-replaced : goal.returns-then-from-gt-MOST_NODES-clause-replaced
+returns-then-from-gt-MOST_NODES-clause-replaced c =
     let told = contract_told c.args.openings.now c.file.result.now c.at.result c.file.ensures.same c.at.ensures.same zeros c.args.day in
     refused _ _ c.args.out.now.items (omega (arith, told, c.from.ensures, c.if-from-gt-MOST_NODES))
 
-pub returns : goal.returns
-returns c =
+pub returns-clause-replaced : goal.returns-clause-replaced
+returns-clause-replaced c =
     let f = c.args.openings.now.read.file in
     let told = contract_told c.args.openings.now c.file.result.now c.at.result c.file.ensures.same c.at.ensures.same zeros c.args.day in
     let small : nodes (opens f zeros c.args.day f.contract) ≤ 256 = omega (arith, told, c.from.ensures, c.if-from-gt-MOST_NODES) in
