@@ -1,5 +1,5 @@
 -- Items written one behind the other.
-use Rattle.std.proofs.Common.{◌≡◌, ℕ, ◌+◌, ◌*◌, ◌<◌, ◌≤◌, List, [], ◌∷◌, ◌++◌, length, get_or, take, drop, sym, refl, ap, ◌∙◌, ap₂, arith}
+use Rattle.std.proofs.Common.{◌≡◌, ℕ, ◌+◌, ◌*◌, ◌<◌, ◌≤◌, List, [], ◌∷◌, ◌++◌, length, get_or, take, drop, set, sym, refl, ap, ◌∙◌, ap₂, arith}
 use Rattle.std.specs.List.{flat_map, enumerate_from}
 use Rattle.std.proofs.lemmas.List.{take_all, take_more, take-append-drop, drop-drop}
 use Rattle.std.proofs.lemmas.List.FromFn.{length-enumerate_from, get_or-enumerate_from}
@@ -12,6 +12,14 @@ use Rattle.due.specs.Items.{Item, numbers, over}
 pub numbers_long : (xs : List Item) → length (flat_map numbers xs) ≡ 3 * length xs
 numbers_long [] = refl
 numbers_long (x ∷ xs) = omega (arith, numbers_long xs)
+
+-- an item in a part of its length
+pub filled : (part : List ℕ) (x : Item) → length part ≡ 3 → set (set (set part 0 x.0) 1 x.1) 2 x.2 ≡ numbers x
+filled [] x long = absurd (omega arith)
+filled (a ∷ []) x long = absurd (omega arith)
+filled (a ∷ b ∷ []) x long = absurd (omega arith)
+filled (a ∷ b ∷ c ∷ []) x long = refl
+filled (a ∷ b ∷ c ∷ d ∷ l) x long = absurd (omega arith)
 
 -- an item that is counted stands at its number
 pub record Stands (dues : List Item) (i leaf : ℕ) (due : Item) : Type 0 where
