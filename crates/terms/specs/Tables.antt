@@ -7,7 +7,7 @@ use Rattle.openings.specs.Clauses.{clause_at}
 use Rattle.terms.specs.declared.nodes.Node.{Node}
 use Rattle.terms.specs.declared.nodes.Node.TheVariants as node
 
--- What a contract sees of a table: its nodes in order, and what the places behind them hold, of which no clause says anything.
+-- What a contract sees of a table: its nodes in order, and what the places behind them hold, of which clauses say at the most that it stays.
 pub record Table : Type 0 where
   pub items : List Node
   pub spare : List Node
