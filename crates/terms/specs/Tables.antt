@@ -1,5 +1,5 @@
 -- Lists of nodes, and the term that one holds. Assumes nothing.
-use Rattle.std.specs.Prelude.{◌≡◌, ℕ, ◌+◌, ◌<◌, ◌≤◌, List, ◌++◌, length, slice_index_or}
+use Rattle.std.specs.Prelude.{◌≡◌, ℕ, ◌+◌, ◌<◌, ◌≤◌, List, ◌++◌, length, replicate, slice_index_or}
 use Rattle.language.specs.Clauses.{step}
 use Rattle.language.specs.Terms.{Term, Done, Lost, Leaf, Choice, Both, Follow, nodes}
 use Rattle.contract_file.specs.declared.files.File.{File}
@@ -7,10 +7,14 @@ use Rattle.openings.specs.Clauses.{clause_at}
 use Rattle.terms.specs.declared.nodes.Node.{Node}
 use Rattle.terms.specs.declared.nodes.Node.TheVariants as node
 
--- What a contract sees of a table: its nodes in order, and what the places behind them hold, of which clauses say at the most that it stays.
+-- What a contract sees of a table: its nodes in order, and what the unused places behind them hold.
 pub record Table : Type 0 where
   pub items : List Node
   pub spare : List Node
+
+-- What the places hold of a table with no nodes yet.
+unfoldable pub all_lost : List Node
+all_lost = replicate 256 node.Lost
 
 -- A node stands at a place.
 abbrev pub Is : List Node → ℕ → Node → Type 0

@@ -1,5 +1,6 @@
 //! A term in a table of nodes, in preorder: a node before its parts, the left part first.
-ghost use Rattle.std.specs.Prelude.{◌≡◌, ◌+◌, ◌<◌, ◌≤◌, [], ◌∷◌, ◌++◌, length};
+ghost use Rattle.std.specs.Prelude.{◌≡◌, ◌+◌, ◌<◌, ◌≤◌, [], ◌∷◌, ◌++◌, drop, length};
+ghost use Rattle.terms.specs.Tables.{all_lost};
 
 use kinds::Row;
 use openings::MOST_NODES;
@@ -45,9 +46,11 @@ impl Model for Table {
 }
 
 impl Table {
-    /// No nodes yet.
+    /// No nodes yet: every place is lost.
+    #[tactic(auto, unfolding(crate::specs::Tables::all_lost))]
     pub fn new() -> Table
-        ensures { result.items ≡ [] }
+        ensures items { result.items ≡ [] }
+        ensures spare { result.spare ≡ all_lost }
     {
         Table {
             nodes: [Node::Lost; MOST_NODES],
@@ -78,10 +81,11 @@ impl Table {
         MOST_NODES - self.len
     }
 
-    /// One more node, if there is room: a full table stays as it was.
+    /// One more node in the first unused place, if there is room: those behind it stay, and a full table stays as it was.
     pub fn push(&mut self, node: Node)
         ensures items { length self.old.items < 256 → self.new.items ≡ self.old.items ++ node ∷ [] }
         ensures len { length self.old.items < 256 → length self.new.items ≡ length self.old.items + 1 }
+        ensures spare { length self.old.items < 256 → self.new.spare ≡ drop 1 self.old.spare }
         ensures full { 256 ≤ length self.old.items → self.new ≡ self.old }
     {
         if self.len < MOST_NODES {

@@ -14,4 +14,4 @@ pub returns-clause-replaced : goal.returns-clause-replaced
 returns-clause-replaced g c = λ t h.
     let held = subst (λ (ns : List Node). Holds c.args.openings.now.read.file ns 0 t) (sym c.as_slice-nodes.ensures.value) h in
     taken g.K.Kind.meaning _ c.args.r.now _ c.file.ensures.same c.marks_of-marks.ensures c.day.ensures _ _ _ _ c.weigh.ensures.weighed t held
-    _ _ _ _ (c.from.ensures ∙ c.size.ensures) c.if-from-gt-MOST_NODES.false c.new-next.ensures (c.build.ensures (ready _ _ _ _ c.weigh.ensures.weighed t held))
+    _ _ _ _ (c.from.ensures ∙ c.size.ensures) c.if-from-gt-MOST_NODES.false c.new-next.ensures.items (c.build.ensures (ready _ _ _ _ c.weigh.ensures.weighed t held))
