@@ -3,7 +3,7 @@ ghost use Rattle.std.specs.Prelude.{◌≡◌, ◌≤◌};
 ghost use Rattle.language.specs.Terms.{Term};
 ghost use Rattle.language.specs.Ends.{durations, end_day};
 ghost use Rattle.openings.specs.Clauses.{templates_of};
-ghost use Rattle.terms.specs.Tables.{Holds};
+ghost use Rattle.terms.specs.Tables.{Holds, places};
 ghost use Rattle.outlook.specs.Outlooks.{Foretold, outlook_of, Seen};
 
 use crate::ahead::Ahead;
@@ -42,17 +42,18 @@ fn look(ahead: &Ahead, nodes: &[Node], clock: u32, at: usize) -> (Outlook, usize
 }
 
 /// The outlook of a table's term at a clock: whether it may end as it stands, and when it can end with more records.
+/// The term may reach into the unused places.
 pub fn look_ahead(openings: &Openings, horizon: &Horizon, table: &Table, clock: u32) -> Outlook
     requires foretold { Foretold openings.now.read.file horizon.now }
-    ensures { (t : Term) → Holds openings.now.read.file table.now.items 0 t → result ≡ outlook_of openings.now.read.file t clock }
+    ensures { (t : Term) → Holds openings.now.read.file (places table.now) 0 t → result ≡ outlook_of openings.now.read.file t clock }
 {
-    look(&Ahead { openings, horizon }, table.as_slice(), clock, 0).0
+    look(&Ahead { openings, horizon }, table.places(), clock, 0).0
 }
 
 /// The earliest day on which a table's term can end, with no record before the clock.
 pub fn end_day(openings: &Openings, horizon: &Horizon, table: &Table, clock: u32) -> Option<u32>
     requires foretold { Foretold openings.now.read.file horizon.now }
-    ensures { (t : Term) → Holds openings.now.read.file table.now.items 0 t → result ≡ end_day (durations (templates_of openings.now.read.file)) t clock }
+    ensures { (t : Term) → Holds openings.now.read.file (places table.now) 0 t → result ≡ end_day (durations (templates_of openings.now.read.file)) t clock }
 {
     look_ahead(openings, horizon, table, clock).end(clock)
 }

@@ -22,17 +22,22 @@ use Rattle.terms.specs.declared.nodes.Node.{Node}
 use Rattle.terms.specs.Tables.{Wrote}
 use Rattle.terms.specs.Results.{Replaced}
 use Rattle.terms.proofs.Joining.{replaced, refused}
+use Rattle.terms.proofs.Writing.{some_nodes}
 use Rattle.residuals.specs.declared.marked.Marked.{Marked}
 use Rattle.residuals.specs.declared.weights.Weight.{Weight}
 use Rattle.residuals.specs.declared.weighed.Weighed.{Weighed}
 use Rattle.residuals.specs.Marks.{next_from, leaf_mark, mark_of}
 use Rattle.residuals.specs.Marked.{file_of, nodes_of, Stands, opened_if, left}
-use Rattle.residuals.specs.Weights.{Weighs}
+use Rattle.residuals.specs.Weights.{Weighs, weight_in}
 use Rattle.residuals.specs.Rests.{Ready}
 
 -- what was weighed from the first place on can be built
 abbrev pub ready : (v : Weighed) (old : List Weight) (end : ℕ) (w : Weight) → Weighs v.marked 0 end w old v.weights.now → (t : Term) → Stands v.marked 0 t → Ready v 0
 ready v old end w weighs t h = record { term = t; held = h; told = λ k u low high held. weighs.told k u low (omega (arith, weighs.ends t h)) held }
+
+-- the weight of the whole term stands at the first place
+pub told_at_first : (m : Marked) (old new : List Weight) (end : ℕ) (w : Weight) → Weighs m 0 end w old new → (t : Term) → Stands m 0 t → weight_in new 0 ≡ w
+told_at_first m old new end w weighs t h = weighs.told 0 t (omega arith) (omega (arith, weighs.ends t h, some_nodes t)) h ∙ sym (weighs.root t h)
 
 -- a term under the marks of a record
 module _ {R : Type 0} (K : Meaning R) (m : Marked) (r : R) (f : File) (same : f ≡ file_of m) (marks : m.marks.now ≡ map (mark_of K f r) (nodes_of m)) (on : m.day ≡ K.day r) where

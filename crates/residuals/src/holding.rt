@@ -3,7 +3,7 @@ ghost use Rattle.std.specs.Prelude.{◌≡◌, OnErr};
 ghost use Rattle.language.specs.Terms.{Term};
 ghost use Rattle.language.specs.Residuals.{residual};
 ghost use Rattle.openings.specs.Clauses.{templates_of};
-ghost use Rattle.terms.specs.Tables.{Holds, SomeTerm};
+ghost use Rattle.terms.specs.Tables.{Holds, SomeTerm, places};
 ghost use Rattle.terms.specs.Results.{Replaced};
 
 use crate::marked::Marked;
@@ -15,18 +15,18 @@ use openings::{MOST_NODES, Openings, Shape};
 use terms::{Table, TooLarge};
 
 /// Makes the table what a record leaves of its term, if that has at most 256 nodes; else leaves it.
-/// Only the marks ask the kind: the rest goes by them.
+/// Only the marks ask the kind: the rest goes by them. The term may reach into the unused places.
 pub fn hold<K: Kind>(
     kind: &K,
     openings: &Openings,
     r: &K::Record,
     table: &mut Table,
 ) -> Result<(), TooLarge>
-    requires tree { SomeTerm openings.now.read.file table.old.items 0 }
-    ensures replaced { (t : Term) → Holds openings.now.read.file table.old.items 0 t → Replaced openings.now.read.file (residual K.Kind.meaning (templates_of openings.now.read.file) t r.now) table.old.items table.new.items result }
+    requires tree { SomeTerm openings.now.read.file (places table.old) 0 }
+    ensures replaced { (t : Term) → Holds openings.now.read.file (places table.old) 0 t → Replaced openings.now.read.file (residual K.Kind.meaning (templates_of openings.now.read.file) t r.now) table.old.items table.new.items result }
     ensures refused { OnErr result (table.new ≡ table.old) }
 {
-    let nodes = table.as_slice();
+    let nodes = table.places();
     let marks = marks_of(kind, openings.file(), r, nodes);
     let marked = Marked {
         openings,

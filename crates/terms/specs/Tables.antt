@@ -12,6 +12,10 @@ pub record Table : Type 0 where
   pub items : List Node
   pub spare : List Node
 
+-- All places in order, the unused ones behind the nodes.
+abbrev pub places : Table → List Node
+places t = t.items ++ t.spare
+
 -- What the places hold of a table with no nodes yet.
 unfoldable pub all_lost : List Node
 all_lost = replicate 256 node.Lost

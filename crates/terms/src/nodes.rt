@@ -1,6 +1,6 @@
 //! A term in a table of nodes, in preorder: a node before its parts, the left part first.
 ghost use Rattle.std.specs.Prelude.{◌≡◌, ◌+◌, ◌<◌, ◌≤◌, [], ◌∷◌, ◌++◌, drop, length};
-ghost use Rattle.terms.specs.Tables.{all_lost};
+ghost use Rattle.terms.specs.Tables.{all_lost, places};
 
 use kinds::Row;
 use openings::MOST_NODES;
@@ -74,6 +74,14 @@ impl Table {
         &self.nodes[..self.len]
     }
 
+    /// All places, the unused ones too.
+    pub fn places(&self) -> &[Node]
+        ensures value { result.now ≡ places self.now }
+        ensures long { length result.now ≡ 256 }
+    {
+        self.nodes.as_slice()
+    }
+
     /// How many more nodes there is room for.
     pub fn remaining_capacity(&self) -> usize
         ensures { result + length self.now.items ≡ 256 }
@@ -87,6 +95,7 @@ impl Table {
         ensures len { length self.old.items < 256 → length self.new.items ≡ length self.old.items + 1 }
         ensures spare { length self.old.items < 256 → self.new.spare ≡ drop 1 self.old.spare }
         ensures full { 256 ≤ length self.old.items → self.new ≡ self.old }
+        ensures places { length (places self.old) ≡ 256 }
     {
         if self.len < MOST_NODES {
             self.nodes[self.len] = node;
