@@ -15,7 +15,7 @@ use openings::{MOST_NODES, Openings, Shape};
 use terms::{Table, TooLarge};
 
 /// Makes the table what a record leaves of its term, if that has at most 256 nodes; else leaves it.
-/// Only the marks ask the kind: the rest goes by them. The term may reach into the unused places.
+/// Only the marks ask the kind: the rest goes by them. The term may reach into the unused places, and no node behind it is asked.
 pub fn hold<K: Kind>(
     kind: &K,
     openings: &Openings,
@@ -26,7 +26,7 @@ pub fn hold<K: Kind>(
     ensures replaced { (t : Term) → Holds openings.now.read.file (places table.old) 0 t → Replaced openings.now.read.file (residual K.Kind.meaning (templates_of openings.now.read.file) t r.now) table.old.items table.new.items result }
     ensures refused { OnErr result (table.new ≡ table.old) }
 {
-    let nodes = table.places();
+    let nodes = table.term();
     let marks = marks_of(kind, openings.file(), r, nodes);
     let marked = Marked {
         openings,

@@ -1,5 +1,6 @@
 pub mod Writing
 pub mod Viewing
+pub mod Ending
 pub mod Joining
 pub mod Walks
 pub mod Levels

@@ -33,6 +33,10 @@ Holds f ns at (Choice l r) = Is ns at node.Choice × Holds f ns (at + 1) l × Ho
 Holds f ns at (Both l r) = Is ns at node.Both × Holds f ns (at + 1) l × Holds f ns (at + 1 + nodes l) r
 Holds f ns at (Follow t c row) = (e : ℕ) × Is ns at (node.Follow e row) × (clause_at f e ≡ c) × Holds f ns (at + 1) t
 
+-- Whatever term the nodes hold from a place on, it ends there.
+abbrev pub Ends : List Node → ℕ → ℕ → Type 0
+Ends ns at end = (f : File) (t : Term) → Holds f ns at t → end ≡ at + nodes t
+
 -- The nodes are those of a term, node for node, and no others.
 abbrev pub Whole : File → List Node → Term → Type 0
 Whole f ns t = Holds f ns 0 t × (length ns ≡ nodes t)

@@ -1,6 +1,8 @@
 //! A term in a table of nodes, in preorder: a node before its parts, the left part first.
-ghost use Rattle.std.specs.Prelude.{◌≡◌, ◌+◌, ◌<◌, ◌≤◌, [], ◌∷◌, ◌++◌, drop, length};
-ghost use Rattle.terms.specs.Tables.{all_lost, places};
+ghost use Rattle.std.specs.Prelude.{◌≡◌, ◌+◌, ◌<◌, ◌≤◌, [], ◌∷◌, ◌++◌, drop, length, take};
+ghost use Rattle.language.specs.Terms.{Term, nodes};
+ghost use Rattle.contract_file.specs.declared.files.File.{File};
+ghost use Rattle.terms.specs.Tables.{all_lost, places, Ends, Holds};
 
 use kinds::Row;
 use openings::MOST_NODES;
@@ -16,6 +18,25 @@ pub enum Node {
     Choice,
     Both,
     Follow { clause: u16, row: Row },
+}
+
+/// Where the term ends that stands at a place. Past the end nothing stands.
+fn end_of(nodes: &[Node], at: usize) -> usize
+    ensures behind { at ≤ result }
+    ensures within { at ≤ length nodes.now → result ≤ length nodes.now }
+    ensures ends { Ends nodes.now at result }
+{
+    let Some(node) = nodes.get(at) else {
+        return at;
+    };
+    match node {
+        Node::Lost | Node::Done | Node::Leaf { .. } => at + 1,
+        Node::Choice | Node::Both => {
+            let middle = end_of(nodes, at + 1);
+            end_of(nodes, middle)
+        }
+        Node::Follow { .. } => end_of(nodes, at + 1),
+    }
 }
 
 /// A term's nodes: the first `len` places are in use.
@@ -58,6 +79,17 @@ impl Table {
         }
     }
 
+    /// A table of these places: the first `len` are in use, or all if `len` is more than there are.
+    pub fn of(nodes: [Node; MOST_NODES], len: usize) -> Table
+        ensures items { result.items ≡ take len nodes }
+        ensures spare { result.spare ≡ drop len nodes }
+    {
+        Table {
+            nodes,
+            len: len.min(MOST_NODES),
+        }
+    }
+
     /// How many nodes there are.
     pub fn len(&self) -> usize
         ensures value { result ≡ length self.now.items }
@@ -80,6 +112,14 @@ impl Table {
         ensures long { length result.now ≡ 256 }
     {
         self.nodes.as_slice()
+    }
+
+    /// The nodes of the term that stands at the first place: it may reach into the unused places.
+    pub fn term(&self) -> &[Node]
+        ensures value { (f : File) (t : Term) → Holds f (places self.now) 0 t → result.now ≡ take (nodes t) (places self.now) }
+        ensures fits { length result.now ≤ 256 }
+    {
+        &self.nodes[..end_of(&self.nodes, 0)]
     }
 
     /// How many more nodes there is room for.

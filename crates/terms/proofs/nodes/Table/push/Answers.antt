@@ -7,4 +7,4 @@ pub returns-then-self-lt-MOST_NODES-clause-spare : goal.returns-then-self-lt-MOS
 returns-then-self-lt-MOST_NODES-clause-spare c _ =
     let at = c.self.inside.len in
     let places = c.self.inside.nodes in
-    drop-set-lt (at + 1) places at c.args.node (omega arith) ∙ sym (drop-drop 1 at places) ∙ ap (λ t. drop 1 t.spare) c.self.view_is
+    drop-set-lt (at + 1) places _ c.args.node (omega arith) ∙ sym (drop-drop 1 at places) ∙ ap (λ t. drop 1 t.spare) c.self.view_is
